@@ -162,6 +162,7 @@ class Hold:
         if byte == START and is_first and self.asks_left and is_soon:
             self.asks_left -= 1
             self.asked_at = now
+            self.first_ack = "counts" if self.first_ack == "dropped" else self.first_ack
             return b""
         if kind == "eot":
             return self.at_eot(byte, now)

@@ -33,6 +33,13 @@ kept first_ack.Counts = first_ack.Counts
 kept first_ack.Doubted = first_ack.Counts
 kept first_ack.Dropped = first_ack.Counts
 
+-- a C that is not heard belongs to the ACK that was dropped, where one was
+abbrev pub behind_start : FirstAck → FirstAck
+behind_start first_ack.Dropped = first_ack.Counts
+behind_start first_ack.Counts = first_ack.Counts
+behind_start first_ack.Doubted = first_ack.Doubted
+behind_start first_ack.Brief = first_ack.Brief
+
 -- behind a new block 0 some C are passed over; a repeat of an EOT leaves what is known of it
 abbrev pub wrote : Bool → Bool → Bool → ℕ → Hold → Hold
 wrote is_opening is_repeat is_doubted now h = record h {
@@ -172,8 +179,14 @@ by_kind kind.Empty byte now h = at_empty byte h
 by_kind k byte now h = other k byte now h
 
 abbrev pub passed_over : ℕ → Hold → Said
-passed_over now h =
-    record { hold = record h { asks_left = h.asks_left - 1; asked_at = now }; say = say.Nothing }
+passed_over now h = record {
+  hold = record h {
+    first_ack = behind_start h.first_ack;
+    asks_left = h.asks_left - 1;
+    asked_at = now;
+  };
+  say = say.Nothing;
+}
 
 -- no control byte
 abbrev pub is_noise : ℕ → Bool

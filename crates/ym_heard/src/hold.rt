@@ -35,6 +35,16 @@ impl FirstAck {
             FirstAck::Counts | FirstAck::Doubted | FirstAck::Dropped => FirstAck::Counts,
         }
     }
+
+    /// A C that is not heard belongs to the ACK that was dropped, where one was.
+    fn behind_start(self) -> FirstAck
+        ensures { result ≡ table.behind_start self }
+    {
+        match self {
+            FirstAck::Dropped => FirstAck::Counts,
+            first_ack => first_ack,
+        }
+    }
 }
 
 /// Whether this byte is no control byte.
@@ -283,7 +293,7 @@ impl Hold {
                 hold: Hold {
                     is_held: self.is_held,
                     at: self.at,
-                    first_ack: self.first_ack,
+                    first_ack: self.first_ack.behind_start(),
                     asks_left: self.asks_left.saturating_sub(1),
                     asked_at: now,
                 },

@@ -276,6 +276,15 @@ stale-answered : heard_of ack_start opening_empty 34012 (writes opening_empty 34
     (after_bytes start opening_empty 34000 stale)) ≡ ack_start
 stale-answered = refl
 
+-- The C of the ACK that was dropped is no ask, however soon it came, and the next one is.
+stale_soon : heard_of (ack_start ++ start) opening_empty 25750 (writes opening_empty 25250
+    stored_late) ≡ []
+stale_soon = refl
+
+stale_soon-asked : heard_of start opening_empty 28750 (after_bytes ack_start opening_empty 25750
+    (writes opening_empty 25250 stored_late)) ≡ start
+stale_soon-asked = refl
+
 -- A file with bytes needs no such care: its block 1 is refused by who has no block 0.
 stale-other : heard_of ack_start opening 31000 (writes opening 25250 stored_late) ≡ ack_start
 stale-other = refl
