@@ -271,6 +271,8 @@ class Timing:
     def is_prompted(self):
         if self.role == "receiver":
             return self.front is not None and self.heard.count >= FRAGMENT
+        if self.trust == "unknown" and self.sent.kind == "empty":
+            return False
         soon = SOON if self.trust == "unknown" else max(SOON, UNASKED - self.slowest)
         return self.out.owed in ("one", "late") and self.asked_within(soon)
 

@@ -285,6 +285,13 @@ stale_soon-asked : heard_of start opening_empty 28750 (after_bytes ack_start ope
     (writes opening_empty 25250 stored_late)) ≡ start
 stale_soon-asked = refl
 
+-- The first block 0 of all is such a one, and asked for so soon that its peer most likely lacks it.
+-- Its sender had started late, and the ask before may have waited for it. So both may be answered.
+first_empty : (writes opening_empty 2200 (after_bytes start opening_empty 2200
+    (writes opening_empty 1000 (after_bytes start [] 1000 (new_timing Sender))))).out
+    ≡ again true 2200 (one 1000)
+first_empty = refl
+
 -- A file with bytes needs no such care: its block 1 is refused by who has no block 0.
 stale-other : heard_of ack_start opening 31000 (writes opening 25250 stored_late) ≡ ack_start
 stale-other = refl

@@ -131,10 +131,20 @@ asked_within long t =
 abbrev pub is_soon : Timing → Bool
 is_soon t = asked_within (soon t) t
 
+abbrev pub unproven_by : Trust → Kind → Bool
+unproven_by trust.Unknown kind.Empty = true
+unproven_by _ _ = false
+
+-- Block 0 of a file without bytes, where nothing is known of the line. An end that started late may
+-- hear asks that were unasked as if they were new. Two answers may come then, and nothing else
+-- would show that one was taken for that of the EOT.
+abbrev pub is_unproven : Timing → Bool
+is_unproven t = unproven_by t.pace.trust t.sent.kind
+
 abbrev pub prompted_by : Role → Owed → Timing → Bool
 prompted_by Receiver o t = t.prefix.is_there && nat_le FRAGMENT t.heard.count
-prompted_by Sender owed.One t = is_soon t
-prompted_by Sender owed.Late t = is_soon t
+prompted_by Sender owed.One t = not (is_unproven t) && is_soon t
+prompted_by Sender owed.Late t = not (is_unproven t) && is_soon t
 prompted_by Sender owed.Likely t = false
 prompted_by Sender owed.Several t = false
 prompted_by Sender owed.Nothing t = false

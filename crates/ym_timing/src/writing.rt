@@ -130,6 +130,18 @@ impl Timing {
         0 < self.heard.count && !self.heard.has_waited && took <= long
     }
 
+    /// Whether it is block 0 of a file without bytes, and nothing is known of the line. An end that
+    /// started late may hear asks that were unasked as if they were new, and nothing else would show
+    /// that the answer to a copy was taken for that of the EOT.
+    fn is_unproven(&self) -> bool
+        ensures { result ≡ table.is_unproven self.now }
+    {
+        match (self.pace.trust, self.sent.kind) {
+            (Trust::Unknown, Kind::Empty) => true,
+            _ => false,
+        }
+    }
+
     /// Whether what was heard answers the write before, which is written again: a peer's ask that
     /// came too soon to be unasked, or to a receiver a damaged frame.
     fn is_prompted(&self) -> bool
@@ -138,7 +150,7 @@ impl Timing {
         match (self.role, self.out.owed) {
             (Role::Receiver, _) => self.prefix.is_there && FRAGMENT <= self.heard.count,
             (Role::Sender, Owed::One) | (Role::Sender, Owed::Late) => {
-                self.asked_within(self.soon())
+                !self.is_unproven() && self.asked_within(self.soon())
             }
             (Role::Sender, _) => false,
         }
