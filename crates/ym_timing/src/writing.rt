@@ -131,7 +131,7 @@ impl Timing {
     }
 
     /// Whether it is block 0 of a file without bytes, and nothing is known of the line. An end that
-    /// started late may hear asks that were unasked as if they were new, and nothing else would show
+    /// started late may hear asks that were unasked as if they were new. Nothing else would show
     /// that the answer to a copy was taken for that of the EOT.
     fn is_unproven(&self) -> bool
         ensures { result ≡ table.is_unproven self.now }
