@@ -303,7 +303,8 @@ class Timing:
         shaken = self.is_shaken
         if not repeat:
             calm = self.sent.kind == "data"
-            shaken = clearing.need != "nothing" or (self.is_shaken and not calm)
+            cleared = clearing.need != "nothing" and self.out.owed != "one"
+            shaken = cleared or (self.is_shaken and not calm)
         is_last = self.sent.kind in OPENINGS and following.kind == "eot"
         empty = following.kind == "empty" or is_last
         copied = self.out.owed == "likely" and taken

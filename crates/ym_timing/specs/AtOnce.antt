@@ -4,12 +4,11 @@ use Rattle.ym_timing.specs.Arrivals.{new_arrivals, is_noise}
 use Rattle.ym_timing.specs.Clears.{is_new_frame, is_unsure}
 use Rattle.ym_heard.specs.Ear as ear
 use Rattle.ym_heard.specs.Hold as hold
-use Rattle.ym_timing.specs.Out.{one}
+use Rattle.ym_timing.specs.Out.{one, is_one}
 use Rattle.ym_timing.specs.Pace.{sure}
 use Rattle.ym_heard.specs.Sent.{is_same, next}
 use Rattle.ym_heard.specs.Times.{later}
 use Rattle.ym_heard.specs.declared.limits.TheConstants.{FULL, HELD_UP}
-use Rattle.ym_timing.specs.declared.out.Owed.{Owed}
 use Rattle.ym_timing.specs.declared.out.Owed.TheVariants as owed
 use Rattle.ym_timing.specs.declared.role.Role.{Role}
 use Rattle.ym_timing.specs.declared.role.Role.TheVariants.{Sender, Receiver}
@@ -59,10 +58,6 @@ led is_repeat n now t = record t {
 }
 
 -- ---- Which writes these are
-
-abbrev pub is_one : Owed → Bool
-is_one owed.One = true
-is_one _ = false
 
 abbrev pub is_answered : ℕ → Timing → Bool
 is_answered now t =

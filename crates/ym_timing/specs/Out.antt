@@ -2,8 +2,9 @@
 --
 -- Each write may be answered once. So where an end has written more than once before an answer
 -- came, as many answers may come, and they come no farther apart than it wrote.
-use Rattle.std.specs.Prelude.{ℕ, ◌+◌, ◌-◌, ◌^◌, max, min, Bool, if◌then◌else◌}
+use Rattle.std.specs.Prelude.{ℕ, ◌+◌, ◌-◌, ◌^◌, max, min, Bool, true, false, if◌then◌else◌}
 use Rattle.ym_timing.specs.declared.out.Out.{Out}
+use Rattle.ym_timing.specs.declared.out.Owed.{Owed}
 use Rattle.ym_timing.specs.declared.out.Owed.TheVariants.{Nothing, One, Late, Likely, Several}
 
 abbrev pub new_out : Out
@@ -24,3 +25,7 @@ again is_likely now o = record {
   last_at = now;
   gap = max o.gap (now - o.last_at);
 }
+
+abbrev pub is_one : Owed → Bool
+is_one One = true
+is_one _ = false

@@ -9,7 +9,7 @@ use Rattle.ym_timing.specs.Clears.{is_new_frame, is_taken, vain_after}
 use Rattle.ym_heard.specs.Ear as ear
 use Rattle.ym_timing.specs.Arrivals.{new_arrivals}
 use Rattle.ym_heard.specs.Hold as hold
-use Rattle.ym_timing.specs.Out.{one, late, again}
+use Rattle.ym_timing.specs.Out.{one, late, again, is_one}
 use Rattle.ym_timing.specs.Pace.{bound, doubtful, sure, wait}
 use Rattle.ym_heard.specs.Sent.{next, is_same}
 use Rattle.ym_heard.specs.Times.{later}
@@ -211,10 +211,15 @@ abbrev pub is_data : Kind → Bool
 is_data kind.Data = true
 is_data _ = false
 
--- the line had to clear since the last data block
+-- the line had to clear, and more than one answer may have come
+abbrev pub is_shaken_by : Purge → Timing → Bool
+is_shaken_by c t = has_cleared c && not (is_one t.out.owed)
+
+-- so it was since the last data block
 abbrev pub is_shaken_after : Bool → Purge → Timing → Bool
 is_shaken_after is_repeat c t =
-    if is_repeat then t.is_shaken else (has_cleared c || (t.is_shaken && not (is_data t.sent.kind)))
+    if is_repeat then t.is_shaken
+    else (is_shaken_by c t || (t.is_shaken && not (is_data t.sent.kind)))
 
 -- Block 0 of a file without bytes, and an EOT right behind one. The EOT of such a file is
 -- acknowledged also by a receiver that never saw its block 0, so nothing else would show it.

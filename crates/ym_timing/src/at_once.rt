@@ -7,7 +7,6 @@ ghost use Rattle.ym_timing.specs.Writing.{wrote};
 ghost use Rattle.ym_timing.specs.declared.purge.Need.{Need};
 
 use crate::arrivals::Arrivals;
-use crate::out::Owed;
 use crate::role::Role;
 use crate::timing::Timing;
 use ym_heard::{FULL, HELD_UP, Kind, Sent};
@@ -19,13 +18,9 @@ impl Timing {
         ensures result { result ≡ table.is_answered now self.now }
         ensures answered { IsTrue result → table.IsAnswered now self.now }
     {
-        let is_one = match self.out.owed {
-            Owed::One => true,
-            Owed::Nothing | Owed::Late | Owed::Likely | Owed::Several => false,
-        };
         let is_some = 0 < self.heard.count && self.heard.count < FULL;
         let is_soon = now < self.heard.last.saturating_add(HELD_UP);
-        is_one && is_some && is_soon && !self.is_shaken
+        self.is_one_owed() && is_some && is_soon && !self.is_shaken
     }
 
     /// Whether a sender goes on to another block.

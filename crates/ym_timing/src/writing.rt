@@ -2,6 +2,7 @@
 //! learned of the line.
 
 ghost use Rattle.std.specs.Prelude.{◌≡◌};
+ghost use Rattle.ym_timing.specs.Out.{is_one};
 ghost use Rattle.ym_timing.specs.Writing as table;
 
 use crate::arrivals::Arrivals;
@@ -192,6 +193,17 @@ impl Timing {
         }
     }
 
+    /// Whether one answer is owed.
+    #[inline(always)]
+    pub(crate) fn is_one_owed(&self) -> bool
+        ensures { result ≡ is_one self.now.out.owed }
+    {
+        match self.out.owed {
+            Owed::One => true,
+            _ => false,
+        }
+    }
+
     /// The frame that a receiver heard last.
     fn prefix_after(&self, is_taken: bool) -> Prefix
         ensures { result ≡ table.prefix_after is_taken self.now }
@@ -206,7 +218,8 @@ impl Timing {
         }
     }
 
-    /// Whether the line had to clear since the last data block.
+    /// Whether the line had to clear since the last data block, where more than one answer may
+    /// have come.
     fn is_shaken_after(&self, is_repeat: bool, purge: Purge) -> bool
         ensures { result ≡ table.is_shaken_after is_repeat purge self.now }
     {
@@ -217,7 +230,7 @@ impl Timing {
         if is_repeat {
             self.is_shaken
         } else {
-            has_cleared(purge) || (self.is_shaken && !is_calm)
+            (has_cleared(purge) && !self.is_one_owed()) || (self.is_shaken && !is_calm)
         }
     }
 
