@@ -121,8 +121,8 @@ abbrev pub empty_ack : Hold → Said
 empty_ack h = by h.first_ack
   where
     by : FirstAck → Said
-    by first_ack.Doubted = holding false h.at first_ack.Dropped say.Nothing h
-    by first_ack.Dropped = holding false h.at first_ack.Counts say.Byte h
+    by first_ack.Doubted = holding h.is_held h.at first_ack.Dropped say.Nothing h
+    by first_ack.Dropped = holding h.is_held h.at first_ack.Counts say.Byte h
     by first_ack.Counts = record { hold = h; say = say.Byte }
     by first_ack.Brief = record { hold = h; say = say.Byte }
 
@@ -131,7 +131,7 @@ abbrev pub empty_start : Hold → Said
 empty_start h = by h.first_ack
   where
     by : FirstAck → Said
-    by first_ack.Dropped = holding false h.at first_ack.Counts say.Nothing h
+    by first_ack.Dropped = holding h.is_held h.at first_ack.Counts say.Nothing h
     by _ = record { hold = h; say = say.Byte }
 
 abbrev pub at_empty : ℕ → Hold → Said

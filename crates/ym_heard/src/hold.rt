@@ -221,19 +221,13 @@ impl Hold {
     fn at_empty(self, byte: u8) -> Said
         ensures { result ≡ table.at_empty byte self }
     {
-        match (byte, self.first_ack) {
-            (ACK, FirstAck::Doubted) => {
-                self.holding(false, self.at, FirstAck::Dropped, Say::Nothing)
-            }
-            (ACK, FirstAck::Dropped) => self.holding(false, self.at, FirstAck::Counts, Say::Byte),
-            (START, FirstAck::Dropped) => {
-                self.holding(false, self.at, FirstAck::Counts, Say::Nothing)
-            }
-            _ => Said {
-                hold: self,
-                say: Say::Byte,
-            },
-        }
+        let (first_ack, say) = match (byte, self.first_ack) {
+            (ACK, FirstAck::Doubted) => (FirstAck::Dropped, Say::Nothing),
+            (ACK, FirstAck::Dropped) => (FirstAck::Counts, Say::Byte),
+            (START, FirstAck::Dropped) => (FirstAck::Counts, Say::Nothing),
+            (_, first_ack) => (first_ack, Say::Byte),
+        };
+        self.holding(self.is_held, self.at, first_ack, say)
     }
 
     /// Whether this byte, which is not to be heard, leaves the ACK that is held. What a peer prints

@@ -60,6 +60,7 @@ fn behind_name(body: &[u8]) -> &[u8]
 }
 
 /// Whether a block 0 says that its file has no bytes.
+#[inline(never)]
 fn is_empty(bytes: &[u8]) -> bool
     requires { 3 ≤ length bytes.now }
     ensures { result ≡ table.is_empty bytes.now }

@@ -3,7 +3,7 @@
 -- Answers to several writes come no later than answers take, and no farther apart than the writes
 -- were: both are enough. Where an end or the line stood still they come in a row, as soon as it
 -- goes on. While a peer waits in vain it asks; such asks are no answers, and lengthen nothing.
-use Rattle.std.specs.Prelude.{ℕ, ◌+◌, ◌-◌, ◌*◌, ◌/◌, ◌%◌, nat_eq, nat_lt, nat_le, ◌&&◌, ◌||◌, not, Bool}
+use Rattle.std.specs.Prelude.{ℕ, ◌+◌, ◌-◌, ◌*◌, ◌/◌, nat_eq, nat_lt, nat_le, ◌&&◌, ◌||◌, not, Bool}
 use Rattle.std.specs.Prelude.{true, false, List, max, min, if◌then◌else◌}
 use Rattle.ym_heard.specs.Ear.{listen}
 use Rattle.ym_timing.specs.Arrivals.{is_noise}
@@ -82,9 +82,13 @@ put_off_by Sender trust.Unknown k = false
 put_off_by Sender trust.Doubtful k = not (ends_batch k)
 put_off_by Sender trust.Sure k = not (ends_batch k)
 
--- three writes were made, or six and so on, and the peer had waited before it asked once more
+-- three writes were made, six or nine: at ten a sender gives up
+abbrev pub comes_third : ℕ → Bool
+comes_third copies = nat_eq copies 3 || nat_eq copies 6 || nat_eq copies 9
+
+-- and the peer had waited before it asked once more
 abbrev pub is_third : Timing → Bool
-is_third t = nat_eq (t.out.copies % 3) 0 && t.heard.is_late
+is_third t = comes_third t.out.copies && t.heard.is_late
 
 abbrev pub is_put_off : Timing → Bool
 is_put_off t =

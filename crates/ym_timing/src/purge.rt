@@ -151,7 +151,10 @@ impl Timing {
     fn is_put_off(&self) -> bool
         ensures { result ≡ table.is_put_off self.now }
     {
-        let is_third = self.out.copies % 3 == 0 && self.heard.is_late;
+        let is_third = match self.out.copies {
+            3 | 6 | 9 => self.heard.is_late,
+            _ => false,
+        };
         match (self.role, self.pace.trust, self.sent.kind) {
             (Role::Receiver, _, _) | (_, Trust::Unknown, _) | (_, _, Kind::End) => false,
             _ => FAR <= self.pace.slowest && is_third,
