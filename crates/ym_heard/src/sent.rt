@@ -60,7 +60,6 @@ fn behind_name(body: &[u8]) -> &[u8]
 }
 
 /// Whether a block 0 says that its file has no bytes.
-#[inline(never)]
 fn is_empty(bytes: &[u8]) -> bool
     requires { 3 ≤ length bytes.now }
     ensures { result ≡ table.is_empty bytes.now }
@@ -99,6 +98,7 @@ impl Sent {
 
     /// What a block with number 0 is, behind this: the first of a file stands at the front of a
     /// batch or behind an EOT.
+    #[inline(never)] // one of it is enough for a small board
     fn zero_kind(self, bytes: &[u8]) -> Kind
         requires { 3 ≤ length bytes.now }
         ensures { result ≡ table.zero_kind self.kind bytes.now }

@@ -40,9 +40,9 @@ abbrev pub kind_of : ℕ → Kind
 kind_of n =
     if n == 0 then kind.Nothing
     else (if n == 1 then kind.Opening
-    else (if n == 2 then kind.Data
-    else (if n == 3 then kind.Eot
-    else (if n == 4 then kind.End else (if n == 5 then kind.Empty else kind.Short)))))
+    else (if n == 2 then kind.Empty
+    else (if n == 3 then kind.Data
+    else (if n == 4 then kind.Eot else (if n == 5 then kind.End else kind.Short)))))
 
 abbrev pub first_ack_of : ℕ → FirstAck
 first_ack_of n =

@@ -95,10 +95,10 @@ pub fn kind_of(code: u8) -> Kind
     match code {
         0 => Kind::Nothing,
         1 => Kind::Opening,
-        2 => Kind::Data,
-        3 => Kind::Eot,
-        4 => Kind::End,
-        5 => Kind::Empty,
+        2 => Kind::Empty,
+        3 => Kind::Data,
+        4 => Kind::Eot,
+        5 => Kind::End,
         _ => Kind::Short,
     }
 }
@@ -110,10 +110,10 @@ pub fn code_of_kind(kind: Kind) -> u8
     match kind {
         Kind::Nothing => 0,
         Kind::Opening => 1,
-        Kind::Data => 2,
-        Kind::Eot => 3,
-        Kind::End => 4,
-        Kind::Empty => 5,
+        Kind::Empty => 2,
+        Kind::Data => 3,
+        Kind::Eot => 4,
+        Kind::End => 5,
         Kind::Short => 6,
     }
 }
