@@ -97,7 +97,9 @@ def is_spent(stall, delay):
     return stall == ("receiver", 2, 21) and delay < 2
 
 
-def stall_rows(ends, seconds, delays, places):
+def stall_rows(ends, seconds, delays, places, is_whole=False):
+    """Of two ends that are ours each has to be whole where the counts allow, and of others where it
+    is said so."""
     for delay in delays:
         for long in seconds:
             for who in ("sender", "receiver"):
@@ -107,7 +109,7 @@ def stall_rows(ends, seconds, delays, places):
                         return session(FEW, Line(Shape(delay), seed=seed, stall=stall), ends)
 
                     name = "the %s stalls %d s at its write %d, delay %g s" % (who, long, at, delay)
-                    is_ours = ends in (SOCKETS, TERMINALS)
+                    is_ours = ends in (SOCKETS, TERMINALS) or is_whole
                     wants = is_ours and long <= 21 and not is_spent((who, at, long), delay)
                     yield Row(name + beside(ends), make, ends, wants)
 
@@ -210,6 +212,8 @@ def short_rows(seeds):
         *late_rows(SOCKETS, (5, 20), (0.5,)),
         *stall_rows(SOCKETS, (6, 12), (0, 0.5), (1, 2, 3, 5)),
         *stall_rows(SOCKETS, (9,), (2,), (15, 16)),
+        # `rb` drops what comes just when copies do on such a line, if all go at once
+        *stall_rows(("send", "rb"), (1, 6), (2,), (6, 7), is_whole=True),
         *echo_rows(SOCKETS, PAIRS[1]),
         *delay_rows(TERMINALS, (0.5, 2), 0, True),
         *delay_rows(TERMINALS, (1.5,), 1, True),

@@ -19,7 +19,7 @@ from support.skipping import needs
 from support.web_peers import Flips, lrzsz, program_receives, program_sends
 
 # The module has so many bytes at most.
-MODULE = 24 * 1024
+MODULE = 25_000
 
 
 def files():
