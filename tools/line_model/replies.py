@@ -11,9 +11,8 @@ OTHERS = 4
 
 
 def is_empty(zero):
-    """Whether a block 0 says that its file has no bytes."""
-    length = bytes(zero[3:]).partition(b"\0")[2]
-    return length[:1] == b"0" and length[1:2] in (b"", b"\0", b" ")
+    """Whether a block 0 says that its file has no bytes: an end writes no 0 in front of a length."""
+    return bytes(zero[3:]).partition(b"\0")[2][:1] == b"0"
 
 
 @dataclass
@@ -137,16 +136,6 @@ class Hold:
             self.first_ack = "counts"
         return bytes([byte])
 
-    def at_empty(self, byte):
-        """Behind block 0 of a file without bytes."""
-        if byte == ACK and self.first_ack == "doubted":
-            self.first_ack = "dropped"
-            return b""
-        was, is_reply = self.first_ack, byte in (ACK, START)
-        if was == "dropped" and is_reply:
-            self.first_ack = "counts"
-        return b"" if was == "dropped" and byte == START else bytes([byte])
-
     def at_moment(self, is_end, byte, now):
         """Behind the end block, or a block 1 whose ACK may be that of a copy of block 0."""
         if byte == ACK:
@@ -158,16 +147,16 @@ class Hold:
     def control(self, kind, byte, is_first, now):
         if self.is_held and byte not in CONTROLS:
             return b""
+        if kind == "empty" and byte == ACK and self.first_ack == "doubted":
+            self.first_ack, self.asks_left, self.asked_at = "counts", STALE_ASKS, now
+            return b""
         is_soon = now < self.asked_at + WITHIN_MS
         if byte == START and is_first and self.asks_left and is_soon:
             self.asks_left -= 1
             self.asked_at = now
-            self.first_ack = "counts" if self.first_ack == "dropped" else self.first_ack
             return b""
         if kind == "eot":
             return self.at_eot(byte, now)
-        if kind == "empty":
-            return self.at_empty(byte)
         if kind == "end" or (kind == "data" and self.first_ack == "doubted"):
             return self.at_moment(kind == "end", byte, now)
         return bytes([byte])

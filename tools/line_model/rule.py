@@ -182,7 +182,7 @@ class Timing:
 
     def is_put_off(self):
         """Whether a copy is put off, so that not each comes as long behind a peer's ask."""
-        is_known = self.role == "sender" and self.trust != "unknown" and self.sent.kind != "end"
+        is_known = self.role == "sender" and self.sent.kind != "end"
         is_third = self.out.copies in (3, 6, 9) and self.heard.is_late
         return is_known and FAR <= self.slowest and is_third
 

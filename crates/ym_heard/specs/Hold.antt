@@ -33,13 +33,6 @@ kept first_ack.Counts = first_ack.Counts
 kept first_ack.Doubted = first_ack.Counts
 kept first_ack.Dropped = first_ack.Counts
 
--- a C that is not heard belongs to the ACK that was dropped, where one was
-abbrev pub behind_start : FirstAck → FirstAck
-behind_start first_ack.Dropped = first_ack.Counts
-behind_start first_ack.Counts = first_ack.Counts
-behind_start first_ack.Doubted = first_ack.Doubted
-behind_start first_ack.Brief = first_ack.Brief
-
 -- behind a new block 0 some C are passed over; a repeat of an EOT leaves what is known of it
 abbrev pub wrote : Bool → Bool → Bool → ℕ → Hold → Hold
 wrote is_opening is_repeat is_doubted now h = record h {
@@ -115,30 +108,6 @@ at_eot byte now h =
     else (if nat_eq byte 0x15 then holding false h.at first_ack.Counts say.Byte h
     else holding false h.at h.first_ack say.Byte h))
 
--- The EOT of a file without bytes is acknowledged also by a receiver that never saw its block 0. So
--- that block's own ACK C has to come: the first one may be that of a copy of the EOT before.
-abbrev pub empty_ack : Hold → Said
-empty_ack h = by h.first_ack
-  where
-    by : FirstAck → Said
-    by first_ack.Doubted = holding h.is_held h.at first_ack.Dropped say.Nothing h
-    by first_ack.Dropped = holding h.is_held h.at first_ack.Counts say.Byte h
-    by first_ack.Counts = record { hold = h; say = say.Byte }
-    by first_ack.Brief = record { hold = h; say = say.Byte }
-
--- the C that belongs to the ACK that was dropped
-abbrev pub empty_start : Hold → Said
-empty_start h = by h.first_ack
-  where
-    by : FirstAck → Said
-    by first_ack.Dropped = holding h.is_held h.at first_ack.Counts say.Nothing h
-    by _ = record { hold = h; say = say.Byte }
-
-abbrev pub at_empty : ℕ → Hold → Said
-at_empty byte h =
-    if nat_eq byte 0x06 then empty_ack h
-    else (if nat_eq byte 0x43 then empty_start h else record { hold = h; say = say.Byte })
-
 -- What a peer prints behind the ACK of the end block may have C in it, or NAK: CAN alone takes that
 -- ACK back. C right behind the ACK of block 1 shows that it was that of a copy of block 0.
 abbrev pub passes : Bool → ℕ → Hold → Bool
@@ -175,14 +144,23 @@ other k byte now h =
 
 abbrev pub by_kind : Kind → ℕ → ℕ → Hold → Said
 by_kind kind.Eot byte now h = at_eot byte now h
-by_kind kind.Empty byte now h = at_empty byte h
 by_kind k byte now h = other k byte now h
 
-abbrev pub passed_over : ℕ → Hold → Said
-passed_over now h = record {
+-- The EOT of a file without bytes is acknowledged also by a receiver that never saw its block 0. So
+-- that block's own ACK has to come, where one may be that of a copy of the EOT before.
+abbrev pub is_anothers : Kind → ℕ → Hold → Bool
+is_anothers k byte h = by k h.first_ack
+  where
+    by : Kind → FirstAck → Bool
+    by kind.Empty first_ack.Doubted = nat_eq byte 0x06
+    by _ _ = false
+
+-- that ACK is not heard, nor is the C behind it
+abbrev pub passed_over : Bool → ℕ → Hold → Said
+passed_over is_anothers now h = record {
   hold = record h {
-    first_ack = behind_start h.first_ack;
-    asks_left = h.asks_left - 1;
+    first_ack = if is_anothers then first_ack.Counts else h.first_ack;
+    asks_left = if is_anothers then STALE_ASKS else h.asks_left - 1;
     asked_at = now;
   };
   say = say.Nothing;
@@ -198,7 +176,8 @@ is_noise byte =
 abbrev pub control : Kind → ℕ → Bool → ℕ → Hold → Said
 control kind byte is_first now h =
     if h.is_held && is_noise byte then record { hold = h; say = say.Nothing }
-    else (if is_stale byte is_first now h then passed_over now h else by_kind kind byte now h)
+    else (if is_anothers kind byte h || is_stale byte is_first now h
+    then passed_over (is_anothers kind byte h) now h else by_kind kind byte now h)
 
 abbrev pub released : Hold → Hold
 released h = record h { is_held = false }

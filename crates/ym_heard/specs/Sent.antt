@@ -1,6 +1,6 @@
 -- What an end wrote last, and what it was: a frame's number alone does not tell block 0 of a file
 -- from its data block 256 (this profile).
-use Rattle.std.specs.Prelude.{ℕ, nat_eq, nat_le, ◌==◌, ◌&&◌, ◌||◌, Bool, List, drop, length}
+use Rattle.std.specs.Prelude.{ℕ, nat_eq, nat_le, ◌==◌, ◌&&◌, Bool, List, drop, length}
 use Rattle.std.specs.Prelude.{slice_index}
 use Rattle.std.specs.Prelude.{if◌then◌else◌}
 use Rattle.std.specs.List.{after_first}
@@ -18,18 +18,14 @@ byte_at bytes place = slice_index bytes place
 abbrev pub is_zero : ℕ → Bool
 is_zero byte = byte == 0
 
--- behind a block 0's head stand the name, 00, and the file's length in digits, which a space or 00
--- ends (the reference's "YMODEM Batch File Transmission")
+-- behind a block 0's head stand the name, 00, and the file's length in digits (the reference's
+-- "YMODEM Batch File Transmission")
 abbrev pub behind_name : List ℕ → List ℕ
 behind_name body = after_first is_zero body
 
-abbrev pub states_zero : List ℕ → Bool
-states_zero rest =
-    nat_eq (byte_at rest 0) 0x30 && (nat_eq (byte_at rest 1) 0 || nat_eq (byte_at rest 1) 0x20)
-
--- it says that its file has no bytes
+-- it says that its file has no bytes: an end writes no 0 in front of a length
 abbrev pub is_empty : List ℕ → Bool
-is_empty bytes = states_zero (behind_name (drop 3 bytes))
+is_empty bytes = nat_eq (byte_at (behind_name (drop 3 bytes)) 0) 0x30
 
 -- an empty name ends the batch
 abbrev pub first_kind : List ℕ → Kind
@@ -53,6 +49,15 @@ abbrev pub kind_of : Kind → List ℕ → Kind
 kind_of last bytes =
     if nat_eq (length bytes) 1 then Eot else (if nat_le (length bytes) 3 then Short
     else block_kind last bytes)
+
+-- what tells a frame from the one before
+abbrev pub named : Sent → List ℕ → Sent
+named last bytes = record {
+  length = length bytes;
+  first = byte_at bytes 0;
+  second = byte_at bytes 1;
+  kind = last.kind;
+}
 
 abbrev pub next : Sent → List ℕ → Sent
 next last bytes = record {

@@ -35,16 +35,6 @@ impl FirstAck {
             FirstAck::Counts | FirstAck::Doubted | FirstAck::Dropped => FirstAck::Counts,
         }
     }
-
-    /// A C that is not heard belongs to the ACK that was dropped, where one was.
-    fn behind_start(self) -> FirstAck
-        ensures { result ≡ table.behind_start self }
-    {
-        match self {
-            FirstAck::Dropped => FirstAck::Counts,
-            first_ack => first_ack,
-        }
-    }
 }
 
 /// Whether this byte is no control byte.
@@ -215,21 +205,6 @@ impl Hold {
         }
     }
 
-    /// A control byte behind block 0 of a file without bytes. Its first ACK C may be that of a copy
-    /// of the EOT before. Then block 0 is asked for again, and answered by another one: the EOT of
-    /// such a file is acknowledged also by a receiver that never saw its block 0.
-    fn at_empty(self, byte: u8) -> Said
-        ensures { result ≡ table.at_empty byte self }
-    {
-        let (first_ack, say) = match (byte, self.first_ack) {
-            (ACK, FirstAck::Doubted) => (FirstAck::Dropped, Say::Nothing),
-            (ACK, FirstAck::Dropped) => (FirstAck::Counts, Say::Byte),
-            (START, FirstAck::Dropped) => (FirstAck::Counts, Say::Nothing),
-            (_, first_ack) => (first_ack, Say::Byte),
-        };
-        self.holding(self.is_held, self.at, first_ack, say)
-    }
-
     /// Whether this byte, which is not to be heard, leaves the ACK that is held. What a peer prints
     /// behind the ACK of the end block may have C in it, or NAK: CAN alone takes that ACK back. C
     /// right behind the ACK of block 1 shows that it was that of a copy of block 0.
@@ -271,6 +246,42 @@ impl Hold {
         byte == START && is_first && 0 < self.asks_left && is_soon
     }
 
+    /// Whether this may be the ACK of a copy of the EOT before, and is not heard behind block 0 of
+    /// a file without bytes. The EOT of such a file is acknowledged also by a receiver that never
+    /// saw its block 0, so that one's own ACK has to come.
+    fn is_anothers(self, kind: Kind, byte: u8) -> bool
+        ensures { result ≡ table.is_anothers kind byte self }
+    {
+        match (kind, self.first_ack) {
+            (Kind::Empty, FirstAck::Doubted) => byte == ACK,
+            _ => false,
+        }
+    }
+
+    /// A byte that is not heard: another frame's ACK, whose C follows, or a C.
+    fn passed_over(self, is_anothers: bool, now: u64) -> Said
+        ensures { result ≡ table.passed_over is_anothers now self }
+    {
+        Said {
+            hold: Hold {
+                is_held: self.is_held,
+                at: self.at,
+                first_ack: if is_anothers {
+                    FirstAck::Counts
+                } else {
+                    self.first_ack
+                },
+                asks_left: if is_anothers {
+                    STALE_ASKS
+                } else {
+                    self.asks_left.saturating_sub(1)
+                },
+                asked_at: now,
+            },
+            say: Say::Nothing,
+        }
+    }
+
     /// A byte that came behind a write of this kind; `is_first` where none was heard since.
     pub fn control(self, kind: Kind, byte: u8, is_first: bool, now: u64) -> Said
         ensures { result ≡ table.control kind byte is_first now self }
@@ -282,21 +293,12 @@ impl Hold {
                 say: Say::Nothing,
             };
         }
-        if self.is_stale(byte, is_first, now) {
-            return Said {
-                hold: Hold {
-                    is_held: self.is_held,
-                    at: self.at,
-                    first_ack: self.first_ack.behind_start(),
-                    asks_left: self.asks_left.saturating_sub(1),
-                    asked_at: now,
-                },
-                say: Say::Nothing,
-            };
+        let is_anothers = self.is_anothers(kind, byte);
+        if is_anothers || self.is_stale(byte, is_first, now) {
+            return self.passed_over(is_anothers, now);
         }
         match kind {
             Kind::Eot => self.at_eot(byte, now),
-            Kind::Empty => self.at_empty(byte),
             kind if self.has_moment(kind) => self.at_moment(is_end(kind), byte, now),
             _ => Said {
                 hold: self,

@@ -1,6 +1,6 @@
 //! What an end wrote last.
 
-ghost use Rattle.std.specs.Prelude.{◌≡◌, ◌≤◌, length, position};
+ghost use Rattle.std.specs.Prelude.{◌≡◌, ◌≤◌, ◌<◌, length, position};
 ghost use Rattle.ym_heard.specs.Sent as table;
 
 /// What it was.
@@ -59,22 +59,20 @@ fn behind_name(body: &[u8]) -> &[u8]
     }
 }
 
-/// Whether a block 0 says that its file has no bytes.
+/// Whether a block 0 says that its file has no bytes. An end writes no 0 in front of a length.
 fn is_empty(bytes: &[u8]) -> bool
     requires { 3 ≤ length bytes.now }
     ensures { result ≡ table.is_empty bytes.now }
 {
-    let rest = behind_name(&bytes[3..]);
-    let end = byte_at(rest, 1);
-    byte_at(rest, 0) == b'0' && (end == 0 || end == b' ')
+    byte_at(behind_name(&bytes[3..]), 0) == b'0'
 }
 
 /// What the first block 0 of a file is.
 fn first_kind(bytes: &[u8]) -> Kind
-    requires { 3 ≤ length bytes.now }
+    requires { 3 < length bytes.now }
     ensures { result ≡ table.first_kind bytes.now }
 {
-    if byte_at(bytes, 3) == 0 {
+    if bytes[3] == 0 {
         Kind::End
     } else if is_empty(bytes) {
         Kind::Empty
@@ -100,7 +98,7 @@ impl Sent {
     /// batch or behind an EOT.
     #[inline(never)] // one of it is enough for a small board
     fn zero_kind(self, bytes: &[u8]) -> Kind
-        requires { 3 ≤ length bytes.now }
+        requires { 3 < length bytes.now }
         ensures { result ≡ table.zero_kind self.kind bytes.now }
     {
         match self.kind {
@@ -109,24 +107,37 @@ impl Sent {
         }
     }
 
+    /// These bytes as far as `is` looks at them. What they are is not asked.
+    #[inline(always)]
+    pub fn named(self, bytes: &[u8]) -> Sent
+        ensures { result ≡ table.named self bytes.now }
+    {
+        Sent {
+            length: bytes.len(),
+            first: byte_at(bytes, 0),
+            second: byte_at(bytes, 1),
+            kind: self.kind,
+        }
+    }
+
     /// What these bytes are, behind this.
     pub fn then(self, bytes: &[u8]) -> Sent
         ensures { result ≡ table.next self bytes.now }
     {
-        let second = byte_at(bytes, 1);
+        let named = self.named(bytes);
         let kind = if bytes.len() == 1 {
             Kind::Eot
         } else if bytes.len() <= 3 {
             Kind::Short
-        } else if second == 0 {
+        } else if named.second == 0 {
             self.zero_kind(bytes)
         } else {
             Kind::Data
         };
         Sent {
-            length: bytes.len(),
-            first: byte_at(bytes, 0),
-            second,
+            length: named.length,
+            first: named.first,
+            second: named.second,
             kind,
         }
     }

@@ -76,11 +76,9 @@ ends_batch _ = false
 -- meanwhile. Where answers take long, copies may come just then each time, as long behind an ask as
 -- the way there and back takes. So each third one is put off. The end block's is not: whoever has
 -- acknowledged that may be gone, and its ACK comes once.
-abbrev pub put_off_by : Role → Trust → Kind → Bool
-put_off_by Receiver trust k = false
-put_off_by Sender trust.Unknown k = false
-put_off_by Sender trust.Doubtful k = not (ends_batch k)
-put_off_by Sender trust.Sure k = not (ends_batch k)
+abbrev pub put_off_by : Role → Owed → Kind → Bool
+put_off_by Sender owed.Several k = not (ends_batch k)
+put_off_by _ _ k = false
 
 -- three writes were made, six or nine: at ten a sender gives up
 abbrev pub comes_third : ℕ → Bool
@@ -92,7 +90,7 @@ is_third t = comes_third t.out.copies && t.heard.is_late
 
 abbrev pub is_put_off : Timing → Bool
 is_put_off t =
-    put_off_by t.role t.pace.trust t.sent.kind && (nat_le FAR t.pace.slowest && is_third t)
+    put_off_by t.role t.out.owed t.sent.kind && (is_third t && nat_le FAR t.pace.slowest)
 
 abbrev pub need_by : Owed → Bool → Bool → Timing → Need
 need_by owed.Several taken unsure t =

@@ -148,6 +148,7 @@ impl Timing {
     /// Whether a copy that was asked for is put off, so that not each one comes as long behind an
     /// ask: a peer that asks again and again may drop what comes just then. Whoever has
     /// acknowledged the end block may be gone, and its ACK comes once.
+    #[inline(never)] // inlined it takes three times as much on a small board
     fn is_put_off(&self) -> bool
         ensures { result ≡ table.is_put_off self.now }
     {
@@ -155,9 +156,10 @@ impl Timing {
             3 | 6 | 9 => self.heard.is_late,
             _ => false,
         };
-        match (self.role, self.pace.trust, self.sent.kind) {
-            (Role::Receiver, _, _) | (_, Trust::Unknown, _) | (_, _, Kind::End) => false,
-            _ => FAR <= self.pace.slowest && is_third,
+        match (self.role, self.out.owed, self.sent.kind) {
+            (_, _, Kind::End) => false,
+            (Role::Sender, Owed::Several, _) => is_third && FAR <= self.pace.slowest,
+            _ => false,
         }
     }
 
@@ -166,11 +168,10 @@ impl Timing {
         ensures { result ≡ table.need_of next now self.now }
     {
         let is_taken = self.is_taken(next);
-        let is_unsure = self.heard.is_noise() || self.was_held_up(now);
+        let is_unsure = self.heard.is_noise() || self.was_held_up(now) || self.is_put_off();
         match self.out.owed {
             Owed::Several if is_taken && !self.has_crossed() => Need::Several,
             _ if is_unsure => Need::Quiet,
-            Owed::Several if self.is_put_off() => Need::Quiet,
             Owed::Late if is_taken => Need::Late,
             _ => Need::Nothing,
         }
@@ -192,7 +193,7 @@ impl Timing {
     pub fn purge(&self, bytes: &[u8], now: u64) -> Purge
         ensures { result ≡ table.purge bytes.now now self.now }
     {
-        let need = self.need(self.sent.then(bytes), now);
+        let need = self.need(self.sent.named(bytes), now);
         Purge {
             need,
             from: if self.was_held_up(now) {
