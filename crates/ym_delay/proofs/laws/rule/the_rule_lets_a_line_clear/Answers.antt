@@ -2,7 +2,7 @@ use Rattle.std.proofs.Common.{◌≡◌, ◌⊎◌, ◌+◌, ◌-◌, ◌^◌, �
 use Rattle.ym_timing.specs.Clears.{apart_until, counts_answers, overdue_at, quiet_of, several_until}
 use Rattle.ym_timing.specs.Pace.{bound}
 use Rattle.ym_heard.specs.Times.{later}
-use Rattle.ym_timing.specs.Writing.{asked_within, is_opening, is_overdue, is_soon, late_by, likely_by, prompted_by, soon, soon_by}
+use Rattle.ym_timing.specs.Writing.{asked_within, is_opening, is_overdue, is_soon, is_unproven, late_by, likely_by, prompted_by, soon, soon_by}
 use Rattle.ym_timing.specs.declared.out.Owed.{Owed}
 use Rattle.ym_timing.specs.declared.out.Owed.TheVariants as owed
 use Rattle.ym_timing.specs.declared.pace.Trust.{Trust}
@@ -101,8 +101,8 @@ pub returns-clause-soon : goal.returns-clause-soon
 returns-clause-soon c oldest t near seen = soon-enough t.pace.trust oldest t near seen
 
 soon-is : (r : Role) (o : Owed) (t : Timing) → r ≡ Sender → prompted_by r o t ≡ true → is_soon t ≡ true
-soon-is Sender owed.One t role prompted = prompted
-soon-is Sender owed.Late t role prompted = prompted
+soon-is Sender owed.One t role prompted = second-is (not (is_unproven t)) (is_soon t) prompted
+soon-is Sender owed.Late t role prompted = second-is (not (is_unproven t)) (is_soon t) prompted
 soon-is _ _ t role prompted = absurd (cc)
 
 likely-is : (o : Owed) (trust : Trust) (t : Timing) → likely_by o trust t ≡ true → asked_within 2250 t ≡ true
