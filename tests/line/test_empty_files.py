@@ -1,4 +1,4 @@
-"""A file without bytes behind an EOT whose answer came late. Replies carry no number, and the EOT of
+"""A file without bytes behind an EOT whose answer came late. Replies carry no number. The EOT of
 such a file is acknowledged also by a receiver that never saw its block 0. So the first answer
 behind its block 0 may be that of a copy of the EOT before, and nothing else would show it."""
 
@@ -11,7 +11,7 @@ from support.talking import expect, expect_no_more
 from support.terminal import is_ready
 
 FILES = [("a", b"x" * 100), ("b", b""), ("c", b"y" * 100)]
-# A receiver asks unasked, so that nobody knows whether it has the EOT, after more than 2.75 seconds.
+# A receiver asks unasked, so that nobody knows whether it has the EOT, after more than 2.75 s.
 ASKS_AFTER = 3.2
 # So late the answer to the copy of the EOT comes behind block 0, and so long nothing follows it. C
 # alone is passed over where it comes within a second of another one.

@@ -11,7 +11,7 @@ OTHERS = 4
 
 
 def is_empty(zero):
-    """Whether a block 0 says that its file has no bytes: an end writes no 0 in front of a length."""
+    """Whether a block 0 says that its file has no bytes: an end writes no 0 before a length."""
     return bytes(zero[3:]).partition(b"\0")[2][:1] == b"0"
 
 
