@@ -8,6 +8,7 @@ import contextlib
 import os
 import random
 import signal
+import termios
 import time
 
 from support.cable import cable, plug, set_for_ticks, settings
@@ -41,7 +42,7 @@ from support.tty_script import (
     runs,
     wants_status,
 )
-from support.waits import wait_until, waiting
+from support.waits import wait_until
 
 
 CHANCE = random.Random(23)
@@ -256,27 +257,15 @@ def test_held_up():
         wants_same({"settings": settings(it.path)}, {"settings": before})
 
 
-# So much of what is written to a raw pseudo terminal waits to be read there, at most.
-UNREAD = 4095
-
-
-def fill(it):
-    """Writes to a line whose other end nobody reads until it takes no more."""
-    os.set_blocking(it.outer, False)
-    is_full = False
-    while not is_full:
-        try:
-            os.write(it.outer, b"?")
-        except BlockingIOError:
-            is_full = waiting(it.inner) >= UNREAD
-
-
 @cases(
     case("ymodem-tty send, ended, whose line takes no more", ["--device"]),
     case("ymodem-tty send, ended, whose line on standard output takes no more", []),
 )
 def test_line_is_full(words):
-    """What cancels can never be written. It ends all the same, and tells so."""
+    """What cancels can never be written. It ends all the same, and tells so.
+
+    A line whose buffers are full may take some bytes all the same, as they are moved on. So it is
+    stopped, as a host stops it, which no setting undoes."""
     with folders() as (here, _), plug() as it:
         paths, before = write_files(here, FILES), settings(it.path)
         end = os.open(it.path, os.O_RDWR | os.O_NOCTTY)
@@ -284,9 +273,10 @@ def test_line_is_full(words):
         how |= {"env": ENVIRONMENT, "start_new_session": True}
         with started([SCRIPT, *at, "send", *paths], here, **how) as script:
             wait_until(lambda: has_open(runs(script.pid), it.path), "the program has the line open")
-            fill(it)
+            termios.tcflow(end, termios.TCOOFF)
             script.send_signal(signal.SIGTERM)
             _, said = ends_with(script, -signal.SIGTERM)
+        termios.tcflow(end, termios.TCOON)
         os.close(end)
         wants_same({"said": said.splitlines(True)[-1]}, {"said": NOT_TOLD})
         wants_same({"settings": settings(it.path)}, {"settings": before})
