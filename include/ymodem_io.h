@@ -11,7 +11,7 @@
 
 /* Bytes that are read at once, and those of a delivery that a sender keeps. */
 #ifndef YM_PIECE
-#define YM_PIECE 256
+#define YM_PIECE 240
 #endif
 #ifndef YM_DELIVERY
 #define YM_DELIVERY 2048
@@ -24,12 +24,12 @@
 #endif
 
 /* Reads that one wait makes at most, and one line that is let clear. A sender's wait for a reply has
-   two parts. */
+   parts of 2.5 seconds, and takes a minute at most. */
 #ifndef YM_MOST_READS
 #define YM_MOST_READS 65536
 #endif
-#if YM_MOST_READS < 2
-#error "YM_MOST_READS is at least 2"
+#if YM_MOST_READS < 24
+#error "YM_MOST_READS is at least 24"
 #endif
 
 /* What may come of it: why the end ended, whether its last write went well or not. */
@@ -175,13 +175,12 @@ static inline int ym_end_takes(ym_end *end, size_t came) {
 }
 
 /* Until when a wait goes on where bytes come of which none is heard: more of a delivery is waited
-   for as long then as for a reply. A sender's wait for one has two parts, and may end with an ACK
-   that is held: of a copy of its line both are over. */
+   for as long then as for a reply. A sender's wait for one has parts, and may end with an ACK that is
+   held: of a copy of its line all are over. */
 static inline uint64_t ym_end_last(const ym_end *end, uint32_t wait, uint64_t start) {
     if (!end->copy || wait == YM_WAIT_FIRST) return ym_line_until(&end->line, YM_WAIT_FIRST, start);
     *end->copy = end->line;
-    ym_line_expired(end->copy, YM_WAIT_FIRST, end->now);
-    ym_line_expired(end->copy, YM_WAIT_FIRST, end->now);
+    while (ym_line_expired(end->copy, YM_WAIT_FIRST, end->now) != YM_VAIN_QUIET) continue;
     return ym_line_until(end->copy, YM_WAIT_FIRST, start);
 }
 

@@ -118,8 +118,8 @@ export class TimedLine {
   }
 
   /** When it is over at the latest, whatever comes that is not heard. For more that is as long as a
-   *  reply may take. Of a sender that time has two parts: a copy of the line, whose wait for a
-   *  reply has run out, tells of both. It stands where nothing is heard. */
+   *  reply may take. Of a sender that time has parts: a copy of the line, whose wait for a reply
+   *  has run out, tells of all. It stands where nothing is heard. */
   #last() {
     if (this.#wait === WAIT.first) return this.#end(WAIT.first);
     const copy = this.heard;

@@ -174,7 +174,7 @@ def test_unheard():
 @cases(
     case("YM_DELIVERY is 1", "-DYM_DELIVERY=1", "YM_DELIVERY is at least 2"),
     case("YM_PIECE is 0", "-DYM_PIECE=0", "YM_PIECE is at least 1"),
-    case("YM_MOST_READS is 1", "-DYM_MOST_READS=1", "YM_MOST_READS is at least 2"),
+    case("YM_MOST_READS is 23", "-DYM_MOST_READS=23", "YM_MOST_READS is at least 24"),
 )
 def test_room(given, told):
     """ymodem_io.h says that it wants more room."""

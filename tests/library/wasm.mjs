@@ -110,7 +110,8 @@ files.forEach((file, i) => wants(same(file.name, stored[i].name) && same(file.da
 // docs/timing.md, by a clock that this file winds on.
 
 const FIRST = 0, MORE = 1, SIZE = 2048;
-let clock = 0;
+// The time, and what the clock of a host tells of it.
+let clock = 0, told = (at) => at;
 
 // An end of a line, as a generator: it yields until when it waits, and gets what came, or nothing.
 class End {
@@ -133,11 +134,11 @@ class End {
   resume(piece) {
     const { done, value } = this.run.next(piece);
     this.isOver = done;
-    this.until = Number(value);
+    if (!done) this.until = clock + Number(value - this.now);
   }
 
   look() {
-    this.now = ym.ym_line_now(this.line, BigInt(clock));
+    this.now = ym.ym_line_now(this.line, BigInt(told(clock)));
   }
 
   // What came, and what was written last.
@@ -148,7 +149,7 @@ class End {
   *get(until) {
     const piece = yield until;
     if (piece) this.look();
-    else this.now = ym.ym_line_waited(this.line, until, BigInt(clock));
+    else this.now = ym.ym_line_waited(this.line, until, BigInt(told(clock)));
     if (piece) bytes.set(piece, this.came);
     return piece ? BigInt(piece.length) : 0n;
   }
@@ -227,8 +228,8 @@ function* sends(end) {
 
 const delivery = room(4 * SIZE), near = new End(false), far = new End(true);
 
-// Plays both ends on a line with this delay, which holds one write of one end for so long.
-function late(delay, stalls, held, at) {
+// Plays both ends on a line that hands on each write of an end as long behind it as this says.
+function play(delayed) {
   clock = 0;
   stored.length = 0;
   near.start(sends);
@@ -237,8 +238,7 @@ function late(delay, stalls, held, at) {
     for (const piece of from.out.splice(0)) {
       const before = to.inbox.at(-1)?.at ?? 0;
       from.writes++;
-      const due = clock + delay + (from === stalls && from.writes === at ? held : 0);
-      to.inbox.push({ at: Math.max(before, due), piece });
+      to.inbox.push({ at: Math.max(before, clock + delayed(from)), piece });
     }
   };
   while (!near.isOver || !far.isOver) {
@@ -250,16 +250,49 @@ function late(delay, stalls, held, at) {
     clock = Math.max(clock, when);
     end.resume(end.inbox[0]?.at <= clock ? end.inbox.shift().piece : undefined);
   }
+  return [u32(sender, sender.state), u32(receiver, receiver.state)];
+}
+
+function exact(how) {
+  stored.forEach(({ name, data }, i) => {
+    wants(same(name, files[i].name) && same(data, files[i].data), `${how}: file ${i} differs`);
+  });
+}
+
+// The same with this delay, where one write of one end is held for so long.
+function late(delay, stalls, held, at) {
   const how = `${delay} ms each way, ${held} ms at write ${at}`;
-  const states = [u32(sender, sender.state), u32(receiver, receiver.state)];
+  const isHeld = (end) => end === stalls && end.writes === at;
+  const states = play((end) => delay + (isHeld(end) ? held : 0));
   wants(states.every((it) => it === 1), `${how}: the ends are at ${states}`);
   wants(stored.length === files.length, `${how}: ${stored.length} files`);
-  files.forEach(({ name, data }, i) => {
-    wants(same(name, stored[i].name) && same(data, stored[i].data), `${how}: file ${i} differs`);
-  });
+  exact(how);
 }
 
 for (const delay of [0, 500, 1500, 2500, 4000]) late(delay, near, 0, 0);
 for (const held of [3500, 6000, 12000]) {
   for (let at = 1; at < 12; at++) for (const end of [near, far]) late(500, end, held, at);
+}
+
+// ---- Clocks that lie: they delay, and no report is false. Each answer takes up to a second more
+// than the one before, or less.
+
+const CLOCKS = {
+  "stands still": () => 5000,
+  "jumps back": (at) => 100000 + at - Math.floor(at / 7000) * 4000,
+};
+
+function lies(name, delay, seed) {
+  const how = `a clock that ${name}, ${delay} ms each way, seed ${seed}`;
+  let state = seed;
+  const jitter = () => (state = (state * 1664525 + 1013904223) >>> 0) / 2 ** 32 * 1000;
+  told = CLOCKS[name];
+  const [sent, received] = play(() => delay + Math.floor(jitter()));
+  exact(how);
+  const isAll = received === 1 && stored.length === files.length;
+  wants(sent !== 1 || isAll, `${how}: finished, and ${stored.length} files are there`);
+}
+
+for (const name in CLOCKS) {
+  for (let delay = 4000; delay <= 12000; delay += 250) for (let seed = 1; seed < 5; seed++) lies(name, delay, seed);
 }

@@ -91,12 +91,6 @@ def late_rows(ends, seconds, delays):
                 yield Row(name + beside(ends), make, ends, wants)
 
 
-def is_spent(stall, delay):
-    """Whether a receiver has given up, 30 s behind its ACK of block 0: that comes 21 s late, and a
-    sender that knows nothing of its line lets it clear for 12 s then."""
-    return stall == ("receiver", 2, 21) and delay < 2
-
-
 def stall_rows(ends, seconds, delays, places, is_whole=False):
     """Of two ends that are ours each has to be whole where the counts allow, and of others where it
     is said so."""
@@ -110,7 +104,7 @@ def stall_rows(ends, seconds, delays, places, is_whole=False):
 
                     name = "the %s stalls %d s at its write %d, delay %g s" % (who, long, at, delay)
                     is_ours = ends in (SOCKETS, TERMINALS) or is_whole
-                    wants = is_ours and long <= 21 and not is_spent((who, at, long), delay)
+                    wants = is_ours and long <= 21
                     yield Row(name + beside(ends), make, ends, wants)
 
 
@@ -191,7 +185,7 @@ def long_rows(seeds):
             *delay_rows(ends, steps(4.25, 12), 0, False),
             *delay_rows(ends, steps(4.25, 12, 1), 1, False),
             *late_rows(ends, (0, 1, 3, 5, 10, 20, 29, 45, 60), (0, 0.5, 2)),
-            *stall_rows(ends, (1, 3, 6, 9, 12, 21, 30), (0, 0.5, 2), range(1, WRITES + 1)),
+            *stall_rows(ends, (1, 3, 6, 9, 12, 21, 30), (0, 0.5, 1, 2), range(1, WRITES + 1)),
             *echo_rows(ends, pairs[1]),
             *noise_rows(pairs, seeds),
         ]
@@ -200,7 +194,7 @@ def long_rows(seeds):
             *delay_rows(ends, steps(0, 4), 0, True),
             *delay_rows(ends, steps(0, 4), 1, True),
             *late_rows(ends, (0, 1, 3, 5, 10, 20, 29, 45, 60), (0, 0.5, 2)),
-            *stall_rows(ends, (1, 3, 6, 9, 12, 21, 30), (0, 0.5, 2), range(1, WRITES + 1)),
+            *stall_rows(ends, (1, 3, 6, 9, 12, 21, 30), (0, 0.5, 1, 2), range(1, WRITES + 1)),
         ]
     return rows
 
@@ -211,6 +205,9 @@ def short_rows(seeds):
         *delay_rows(SOCKETS, (1.5,), 1, True),
         *late_rows(SOCKETS, (5, 20), (0.5,)),
         *stall_rows(SOCKETS, (6, 12), (0, 0.5), (1, 2, 3, 5)),
+        # an answer to a copy of block 0 comes when block 1 is out
+        *stall_rows(SOCKETS, (9,), (1,), (1, 2)),
+        *stall_rows(SOCKETS, (21,), (0, 1), (2,)),
         *stall_rows(SOCKETS, (9,), (2,), (15, 16)),
         # `rb` drops what comes just when copies do on such a line, if all go at once
         *stall_rows(("send", "rb"), (1, 6), (2,), (6, 7), is_whole=True),

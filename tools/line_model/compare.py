@@ -80,7 +80,7 @@ class Run:
         timing.wrote(FRAMES[index], clearing, self.now)
         self.written, self.index = FRAMES[index], index
         owed = OWED.index(timing.out.owed)
-        self.row("wrote", index, timing.slowest * 16 + owed * 2 + timing.is_shaken)
+        self.row("wrote", index, timing.slowest * 16 + owed * 2 + (0 < timing.shaken))
 
     def steps(self, count):
         acts = (self.hears, self.hears, self.hears, self.waits, self.expires, self.writes)

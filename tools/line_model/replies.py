@@ -5,7 +5,8 @@ from dataclasses import dataclass
 from ends import ACK, CAN, CONTROLS, NAK, START
 
 WITHIN_MS = 1_000
-MOMENT, BRIEF, TOGETHER = 100, 25, 10
+MOMENT, BRIEF, TOGETHER, RESTED = 100, 25, 10, 500
+DOUBTS = ("doubted", "dropped")
 STALE_ASKS = 10
 OTHERS = 4
 
@@ -98,9 +99,11 @@ class Hold:
 
     def wrote(self, is_opening, is_repeat, is_doubted, now):
         self.is_held = False
-        if not is_repeat:
-            kept = "brief" if self.first_ack == "brief" else "counts"
-            self.first_ack = "doubted" if is_doubted else kept
+        stays = DOUBTS if is_repeat else ("brief", "rested")
+        if is_doubted and not is_repeat:
+            self.first_ack = "doubted"
+        elif self.first_ack not in stays:
+            self.first_ack = "counts"
         self.asks_left = STALE_ASKS if is_opening and not is_repeat else 0
         self.asked_at = now
 
@@ -110,7 +113,13 @@ class Hold:
         return b""
 
     def moment(self):
-        return BRIEF if self.first_ack == "brief" else MOMENT
+        return {"rested": 0, "brief": BRIEF}.get(self.first_ack, MOMENT)
+
+    def seen(self, now):
+        apart = max(0, now - self.at)
+        if apart < TOGETHER:
+            return "brief"
+        return "rested" if RESTED <= apart else "counts"
 
     def start(self, now):
         if self.first_ack == "dropped":
@@ -118,12 +127,11 @@ class Hold:
             return b""
         was, self.is_held = self.is_held, False
         if was:
-            is_brief = now < self.at + TOGETHER or self.at + MOMENT <= now
-            self.first_ack = "brief" if is_brief else "counts"
+            self.first_ack = self.seen(now)
         return bytes([ACK, START]) if was else bytes([START])
 
     def at_eot(self, byte, now):
-        if byte == ACK and self.first_ack == "doubted":
+        if byte == ACK and self.first_ack in DOUBTS:
             self.is_held, self.first_ack = False, "dropped"
             return b""
         if byte == ACK:
@@ -147,13 +155,14 @@ class Hold:
     def control(self, kind, byte, is_first, now):
         if self.is_held and byte not in CONTROLS:
             return b""
-        if kind == "empty" and byte == ACK and self.first_ack == "doubted":
-            self.first_ack, self.asks_left, self.asked_at = "counts", STALE_ASKS, now
+        if kind == "empty" and byte == ACK and self.first_ack in DOUBTS:
+            self.first_ack, self.asks_left, self.asked_at = "dropped", STALE_ASKS, now
             return b""
         is_soon = now < self.asked_at + WITHIN_MS
         if byte == START and is_first and self.asks_left and is_soon:
             self.asks_left -= 1
             self.asked_at = now
+            self.first_ack = "counts" if self.first_ack == "dropped" else self.first_ack
             return b""
         if kind == "eot":
             return self.at_eot(byte, now)

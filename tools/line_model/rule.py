@@ -6,7 +6,7 @@ milliseconds.
 
 from dataclasses import dataclass, replace
 
-from ends import ACK, CAN, CANCEL, CONTROLS, WITHIN
+from ends import ACK, CAN, CANCEL, CONTROLS, NAK, WITHIN
 from line import MS, Read, Write
 from replies import MOMENT, WITHIN_MS, Ear, Hold, Sent
 
@@ -24,6 +24,7 @@ FRAGMENT = 64
 FULL = 2_048
 HALVINGS = 4
 PATIENCE = 2_500
+SHAKEN = 2
 # block 0 of a file with bytes, and of one without
 OPENINGS = ("opening", "empty")
 
@@ -36,19 +37,28 @@ class Heard:
     acked: int = 0
     first: int = 0
     second: int = 0
+    answers: int = 0
+    is_ack: bool = False
     is_quiet: bool = False
-    has_waited: bool = False
+    waits: int = 0
     is_late: bool = False
 
     def take(self, byte, now):
         if self.count == 0:
-            self.since, self.first, self.is_late = now, byte, self.has_waited
+            self.since, self.first, self.is_late = now, byte, 0 < self.waits
         if self.count == 1:
             self.second = byte
         self.count = min(FULL, self.count + 1)
         if byte == ACK or self.count == 1:
             self.acked = now
         self.last, self.is_quiet = now, False
+
+    def take_reply(self, byte, now):
+        self.take(byte, now)
+        is_ack = byte == ACK
+        if is_ack and not self.is_ack:
+            self.answers = min(255, self.answers + 1)
+        self.is_ack = is_ack
 
     def is_noise(self):
         return self.count >= FULL and not self.is_quiet
@@ -89,7 +99,7 @@ class Timing:
         self.slowest, self.trust = 0, "unknown"
         self.out, self.sent, self.led_at, self.heard = Out(), Sent(), 0, Heard()
         self.ear, self.hold, self.echoed, self.front = Ear(), Hold(), 0, None
-        self.is_shaken, self.vain, self.has_cancel = False, 0, False
+        self.shaken, self.is_refused, self.vain, self.has_cancel = 0, False, 0, False
 
     # ---- how long answers take
 
@@ -118,13 +128,17 @@ class Timing:
     # ---- waits and what comes
 
     def is_early(self, kind):
-        return kind != WITHIN and self.role == "sender" and not self.heard.has_waited
+        return kind != WITHIN and self.role == "sender" and self.part() < self.wait()
+
+    def part(self):
+        """How long behind its start the part of a wait is over that it is in."""
+        return (self.heard.waits + 1) * PATIENCE
 
     def until(self, kind, start):
         if kind == WITHIN:
             end = start + self.within()
         else:
-            end = start + (PATIENCE if self.is_early(kind) else self.wait())
+            end = start + (self.part() if self.is_early(kind) else self.wait())
         if not self.hold.is_held:
             return end
         if self.sent.kind in ("end", "data"):
@@ -135,13 +149,13 @@ class Timing:
         """What a read that waited in vain comes to: "ack", "again" or "quiet"."""
         if self.sent.kind in ("end", "data") and self.hold.is_held:
             self.hold.is_held = False
-            self.heard.take(ACK, now)
+            self.heard.take_reply(ACK, now)
             return "ack"
-        if self.is_early(kind):
-            self.heard.is_quiet, self.heard.has_waited = False, True
+        is_early = self.is_early(kind)
+        self.heard.is_quiet, self.heard.waits = not is_early, min(255, self.heard.waits + 1)
+        if is_early:
             return "again"
         self.hold.is_held = False
-        self.heard.is_quiet = self.heard.has_waited = True
         return "quiet"
 
     def byte(self, byte, written, now):
@@ -157,7 +171,7 @@ class Timing:
             return b""
         said = self.hold.control(self.sent.kind, byte, self.heard.count == 0, now)
         if said:
-            self.heard.take(byte, now)
+            self.heard.take_reply(byte, now)
         return said
 
     # ---- clearing
@@ -201,7 +215,22 @@ class Timing:
         is_counted = self.role == "sender" and need in ("late", "several")
         by = self.heard.acked if is_counted else self.heard.last
         frm = now if self.was_held_up(now) else by
-        return Clearing(need, frm, max(0, self.out.copies - 1), self.heard.last, now + LONGEST)
+        answers, last = self.heard.answers, self.heard.last
+        owed = max(0, self.out.copies - max(1, answers))
+        heed = "ack" if self.heard.is_ack else "open"
+        return Clearing(need, frm, owed, last, now + LONGEST, 1 < answers, heed)
+
+    def stores_for(self):
+        """How much later an EOT may be answered than a block."""
+        is_stored = self.role == "sender" and self.sent.kind == "eot" and not self.is_refused
+        return QUIET["sender"] if is_stored else 0
+
+    def is_answered(self, clearing):
+        """Whether each copy of a block was answered."""
+        if self.role == "receiver" or clearing.owed:
+            return False
+        is_apart = clearing.heed != "ack"
+        return self.sent.kind == "data" or (self.sent.kind in OPENINGS and is_apart)
 
     def clear_at(self, clearing):
         """Until when what comes is dropped; 0 where nothing is to be."""
@@ -214,11 +243,11 @@ class Timing:
             soon = min(quiet, self.slowest + 2 * MOMENT) // (1 << self.vain)
             until = frm + max(MOMENT, soon)
         else:
-            counts = self.role == "sender" and self.sent.kind in ("data", *OPENINGS)
-            if counts and clearing.has_brought and clearing.owed == 0:
+            if self.is_answered(clearing):
                 return 0
             apart = frm + self.out.gap + APART
-            late = apart if self.trust == "unknown" else self.out.last_at + self.bound()
+            late = self.out.last_at + self.bound() + self.stores_for()
+            late = apart if self.trust == "unknown" else late
             until = max(frm + quiet, min(apart, late))
         return min(until, clearing.end_at)
 
@@ -227,7 +256,7 @@ class Timing:
         answers = is_heard and byte == ACK
         if answers or self.role == "receiver" or clearing.need == "quiet":
             clearing.frm = now
-        if answers and clearing.answered_at < now:
+        if answers and (clearing.answered_at < now or clearing.heed != "ack"):
             clearing.owed = max(0, clearing.owed - 1)
         if answers:
             clearing.answered_at = now
@@ -235,8 +264,14 @@ class Timing:
         if is_heard:
             if clearing.heed == "can" and byte == CAN:
                 self.has_cancel = True
-            may = clearing.heed == "open" or (clearing.heed == "other" and self.role == "sender")
-            clearing.heed = "can" if may and byte == CAN else "other"
+            clearing.heed = self.heeds(clearing.heed, byte)
+
+    def heeds(self, heed, byte):
+        """How much of CAN CAN was dropped, behind one more byte."""
+        is_sender = self.role == "sender"
+        if byte == CAN and (heed == "open" or (is_sender and heed in ("ack", "other"))):
+            return "can"
+        return "ack" if is_sender and byte == ACK else "other"
 
     # ---- a write
 
@@ -278,7 +313,7 @@ class Timing:
 
     def asked_within(self, long):
         took = max(0, self.heard.since - self.led_at)
-        return self.heard.count > 0 and not self.heard.has_waited and took <= long
+        return self.heard.count > 0 and not self.heard.waits and took <= long
 
     def is_late(self):
         is_one = self.role == "sender" and self.out.owed in ("one", "late")
@@ -297,26 +332,43 @@ class Timing:
             return Out("late", 1, now, now, 0)
         return self.out.likely(now) if self.is_likely() else self.out.again(now)
 
+    def shaken_after(self, repeat, clearing):
+        is_refusal = self.sent.kind == "eot" and self.heard.first == NAK and not self.is_refused
+        if repeat:
+            return self.shaken if self.role == "receiver" or is_refusal else SHAKEN
+        left = max(0, self.shaken - (self.sent.kind == "data"))
+        cleared = clearing.need != "nothing" and self.out.owed != "one"
+        return max(1, left) if cleared else left
+
+    def is_refused_after(self, repeat):
+        if self.role == "receiver" or self.sent.kind != "eot":
+            return self.is_refused
+        return repeat and (self.is_refused or self.heard.first == NAK)
+
+    def is_doubted(self, following, taken, shaken):
+        """Whether the first ACK of this may be that of a copy of the frame before."""
+        if self.out.owed == "likely":
+            return taken
+        is_opening = self.sent.kind in OPENINGS
+        is_first = is_opening and following.kind == "data"
+        is_last = is_opening and following.kind == "eot"
+        is_unsafe = bool(shaken) and (following.kind == "empty" or is_last)
+        return is_unsafe or (self.out.owed == "several" and taken and is_first)
+
     def wrote(self, data, clearing, now):
         following = self.sent.then(data)
         repeat, taken = self.sent.is_same(following), self.is_taken(following)
-        shaken = self.is_shaken
-        if not repeat:
-            calm = self.sent.kind == "data"
-            cleared = clearing.need != "nothing" and self.out.owed != "one"
-            shaken = cleared or (self.is_shaken and not calm)
-        is_last = self.sent.kind in OPENINGS and following.kind == "eot"
-        empty = following.kind == "empty" or is_last
-        copied = self.out.owed == "likely" and taken
+        shaken, refused = self.shaken_after(repeat, clearing), self.is_refused_after(repeat)
+        doubted = self.is_doubted(following, taken, shaken)
         out = self.out_after(taken, now)
         self.learn(clearing, taken)
         if clearing.need in ("late", "several"):
             self.vain = 0 if clearing.has_brought else min(HALVINGS, self.vain + 1)
-        self.hold.wrote(following.kind in OPENINGS, repeat, (shaken and empty) or copied, now)
+        self.hold.wrote(following.kind in OPENINGS, repeat, doubted, now)
         if self.role == "receiver" and taken:
             self.front = (self.heard.first, self.heard.second)
         self.led_at = self.heard.last if self.heard.count else now
-        self.out, self.sent, self.is_shaken = out, following, shaken
+        self.out, self.sent, self.shaken, self.is_refused = out, following, shaken, refused
         self.heard, self.echoed, self.ear.others = Heard(), 0, 0
 
 

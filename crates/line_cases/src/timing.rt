@@ -56,7 +56,7 @@ fn vain_of(vain: Vain) -> u64 {
     }
 }
 
-/// The slowest answer, what is owed, and whether the line had to clear, in one number.
+/// The slowest answer, what is owed, and whether the line is shaken, in one number.
 fn learned(timing: &Timing) -> u64 {
     let owed = match timing.out.owed {
         Owed::Nothing => 0,
@@ -65,7 +65,7 @@ fn learned(timing: &Timing) -> u64 {
         Owed::Several => 6,
         Owed::Likely => 8,
     };
-    let shaken = u64::from(timing.is_shaken);
+    let shaken = u64::from(0 < timing.shaken);
     timing
         .pace
         .slowest

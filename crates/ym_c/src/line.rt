@@ -14,7 +14,9 @@ ghost use Rattle.ym_timing.specs.Timing as table;
 ghost use Rattle.ym_timing.specs.Writing as writing;
 
 use ym_heard::cancels;
-use ym_line_c::{YmClearing, YmLine, code_of_vain, drop_bytes, hear_bytes, role_of, wait_of};
+use ym_line_c::{
+    YmClearing, YmLine, code_of_vain, drop_bytes, flag_of, hear_bytes, role_of, wait_of,
+};
 use ym_timing::Timing;
 
 /// Makes the line of an end that said and heard nothing, whatever stood there: 0 a sender, any
@@ -152,8 +154,9 @@ pub extern "C" fn ym_line_clear_at(line: &YmLine, clearing: &YmClearing) -> u64
         pace: line.pace.load(),
         out: line.out.load(),
         sent: line.sent.load(),
+        is_refused: flag_of(line.is_refused),
         vain: line.vain,
-        has_cancel: line.has_cancel != 0,
+        has_cancel: flag_of(line.has_cancel),
         ..Timing::new(role_of(u32::from(line.role)))
     };
     timing.clear_at(clearing.load())

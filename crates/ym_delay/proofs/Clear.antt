@@ -30,15 +30,16 @@ pub record Same (first t : Timing) : Type 0 where
   pub role : t.role ≡ first.role
   pub pace : t.pace ≡ first.pace
   pub out : t.out ≡ first.out
+  pub sent : t.sent ≡ first.sent
+  pub refused : t.is_refused ≡ first.is_refused
 
 ear-same : (r : Role) (byte : ℕ) (written : List ℕ) (now : ℕ) (first t : Timing) → Same first t → Same first (clears.with_ear r byte written now t)
-ear-same Sender byte written now first t is = record { role = is.role; pace = is.pace; out = is.out }
+ear-same Sender byte written now first t is = record { role = is.role; pace = is.pace; out = is.out; sent = is.sent; refused = is.refused }
 ear-same Receiver byte written now first t is = is
 
 dropped-same : (c : Purge) (byte : ℕ) (written : List ℕ) (now : ℕ) (first t : Timing) → Same first t → Same first (clears.after_dropped c byte written now t)
 dropped-same c byte written now first t is =
-    let ear = ear-same t.role byte written now first t is in
-    either (λ (x : Timing). Same first x) (clears.is_heard byte written now t) _ _ (λ _. record { role = ear.role; pace = ear.pace; out = ear.out }) (λ _. ear)
+    let ear = ear-same t.role byte written now first t is in either (λ (x : Timing). Same first x) (clears.is_heard byte written now t) _ _ (λ _. record { role = ear.role; pace = ear.pace; out = ear.out; sent = ear.sent; refused = ear.refused }) (λ _. ear)
 
 -- ---- Several writes: since a later ACK it takes no less
 
@@ -52,15 +53,10 @@ module _ (first t : Timing) (is : Same first t) (since from : ℕ) (before : sin
   apart-more : clears.apart_until since first ≤ clears.apart_until from t
   apart-more = subst (λ (o : Out). clears.apart_until since first ≤ later (later from o.gap) 2000) (sym is.out) (later-more _ _ 2000 (later-more since from first.out.gap before))
 
-  due-same : later first.out.last_at (bound first.pace) ≤ later t.out.last_at (bound t.pace)
-  due-same =
-      subst (λ (o : Out). later first.out.last_at (bound first.pace) ≤ later o.last_at (bound t.pace)) (sym is.out)
-      (subst (λ (p : Pace). later first.out.last_at (bound first.pace) ≤ later first.out.last_at (bound p)) (sym is.pace) (omega arith))
-
   due-more : (trust : Trust) → clears.overdue_at trust since first ≤ clears.overdue_at trust from t
   due-more Unknown = apart-more
-  due-more Doubtful = due-same
-  due-more Sure = due-same
+  due-more Doubtful = rw (is.role, is.out, is.pace, is.sent, is.refused) (omega arith)
+  due-more Sure = rw (is.role, is.out, is.pace, is.sent, is.refused) (omega arith)
 
   several-more : clears.several_until since first ≤ clears.several_until from t
   several-more =

@@ -10,8 +10,8 @@ use Rattle.ym_port.specs.declared.line.Line.{Line}
 use Rattle.ym_timing.specs.ByteRows.{after_bytes}
 use Rattle.ym_timing.specs.Pace as pace
 use Rattle.ym_heard.specs.Times.{later}
-use Rattle.ym_timing.specs.Timing.{after_by, after_byte, after_vain, controlled, is_early, holds_a_moment, is_acked, listened_to, takes, until}
-use Rattle.ym_heard.specs.declared.limits.TheConstants.{PATIENCE, WITHIN}
+use Rattle.ym_timing.specs.Timing.{after_by, after_byte, after_vain, controlled, is_early, holds_a_moment, is_acked, listened_to, part, takes, until}
+use Rattle.ym_heard.specs.declared.limits.TheConstants.{WITHIN}
 use Rattle.ym_heard.specs.declared.hold.Say.{Say}
 use Rattle.ym_heard.specs.declared.hold.Say.TheVariants as say
 use Rattle.ym_timing.specs.declared.pace.Pace.{Pace}
@@ -60,10 +60,10 @@ limit true false false moment patient whole other none late = omega arith
 limit false last true moment patient whole other none late = absurd (cc)
 limit false last false moment patient whole other none late = omega arith
 
--- not an ACK that is held, nor the first part of a wait
+-- not an ACK that is held, and the last part of a wait
 over-by : (start : ℕ) (t : Timing) → is_acked t ≡ false → is_early Reply t ≡ false → later start (pace.wait t.role t.pace) ≤ until Reply start t
 over-by start t none late =
-    limit t.hold.is_held (holds_a_moment t.sent.kind) (is_early Reply t) _ (later start PATIENCE) (later start (pace.wait t.role t.pace)) (later t.hold.at WITHIN) none late
+    limit t.hold.is_held (holds_a_moment t.sent.kind) (is_early Reply t) _ (later start (part t)) (later start (pace.wait t.role t.pace)) (later t.hold.at WITHIN) none late
 
 pub at-most : (a b : ℕ) → nat_le a b ≡ true → a ≤ b
 at-most a b is = grind (arith, is)

@@ -11,7 +11,7 @@ use Rattle.ym_timing.specs.ByteRows.{after_bytes, writes}
 use Rattle.ym_timing.specs.Clears.{clear_at, purge}
 use Rattle.ym_timing.specs.Timing.{new_timing}
 use Rattle.ym_timing.specs.declared.purge.Purge.{Purge}
-use Rattle.ym_timing.specs.declared.purge.Heed.TheVariants.{Other}
+use Rattle.ym_timing.specs.declared.purge.Heed.TheVariants.{Ack}
 use Rattle.ym_timing.specs.declared.role.Role.TheVariants.{Sender}
 use Rattle.ym_timing.specs.declared.timing.Timing.{Timing}
 use Rattle.ym_delay.specs.LateAnswers.{Late, brings, purge_behind, line_behind}
@@ -67,7 +67,7 @@ late-ack : left.answer ≡ Ok (record start {
   owed = 1;
   answered_at = 8000;
   has_brought = true;
-  heed = Other;
+  heed = Ack;
 })
 unfolding cleared
 late-ack = refl

@@ -12,7 +12,7 @@ use Rattle.ym_heard.specs.declared.hold.Say.{Say}
 use Rattle.ym_heard.specs.declared.hold.Say.TheVariants as say
 use Rattle.ym_heard.specs.declared.hold.FirstAck.{FirstAck}
 use Rattle.ym_heard.specs.declared.hold.FirstAck.TheVariants as first_ack
-use Rattle.ym_heard.specs.declared.limits.TheConstants.{BRIEF, MOMENT, TOGETHER}
+use Rattle.ym_heard.specs.declared.limits.TheConstants.{BRIEF, MOMENT, RESTED, TOGETHER}
 use Rattle.ym_heard.specs.declared.limits.TheConstants.{STALE_ASKS, WITHIN}
 use Rattle.ym_heard.specs.declared.sent.Kind.{Kind}
 use Rattle.ym_heard.specs.declared.sent.Kind.TheVariants as kind
@@ -26,20 +26,27 @@ new_hold = record {
   asked_at = 0;
 }
 
--- what was seen of an EOT stays until the next one
-abbrev pub kept : FirstAck → FirstAck
-kept first_ack.Brief = first_ack.Brief
-kept first_ack.Counts = first_ack.Counts
-kept first_ack.Doubted = first_ack.Counts
-kept first_ack.Dropped = first_ack.Counts
+-- Behind a copy a doubt stays. Behind another frame what was seen of an EOT does: of a line on
+-- which something was written again nothing is known.
+abbrev pub kept : Bool → FirstAck → FirstAck
+kept true first_ack.Doubted = first_ack.Doubted
+kept true first_ack.Dropped = first_ack.Dropped
+kept false first_ack.Brief = first_ack.Brief
+kept false first_ack.Rested = first_ack.Rested
+kept _ _ = first_ack.Counts
 
--- behind a new block 0 some C are passed over; a repeat of an EOT leaves what is known of it
+-- an ACK may be another frame's, also where such a one was dropped and its C has not come
+abbrev pub is_doubted : FirstAck → Bool
+is_doubted first_ack.Doubted = true
+is_doubted first_ack.Dropped = true
+is_doubted _ = false
+
+-- behind a new block 0 some C are passed over
 abbrev pub wrote : Bool → Bool → Bool → ℕ → Hold → Hold
 wrote is_opening is_repeat is_doubted now h = record h {
   is_held = false;
   first_ack =
-      if is_repeat then h.first_ack
-      else (if is_doubted then first_ack.Doubted else kept h.first_ack);
+      if is_doubted && not is_repeat then first_ack.Doubted else kept is_repeat h.first_ack;
   asks_left = if is_opening && not is_repeat then STALE_ASKS else 0;
   asked_at = now;
 }
@@ -60,17 +67,20 @@ ack w now h = holding true (if h.is_held then h.at else now) w say.Nothing h
 
 -- A peer writes C right behind an EOT's ACK, as U-Boot does, or when it has waited, as rb does. In
 -- between, it is the line that hands on later what was written at once.
-abbrev pub is_brief : ℕ → Bool
-is_brief apart = nat_lt apart TOGETHER || nat_le MOMENT apart
+abbrev pub seen_apart : ℕ → FirstAck
+seen_apart apart =
+    if nat_lt apart TOGETHER then first_ack.Brief
+    else (if nat_le RESTED apart then first_ack.Rested else first_ack.Counts)
 
 abbrev pub seen : ℕ → Hold → FirstAck
-seen now h = if is_brief (now - h.at) then first_ack.Brief else first_ack.Counts
+seen now h = seen_apart (now - h.at)
 
 -- how long CAN CAN is listened for behind the ACK of the end block
 abbrev pub moment : Hold → ℕ
 moment h = by h.first_ack
   where
     by : FirstAck → ℕ
+    by first_ack.Rested = 0
     by first_ack.Brief = BRIEF
     by first_ack.Counts = MOMENT
     by first_ack.Doubted = MOMENT
@@ -90,16 +100,13 @@ start now h = by h.first_ack
     by first_ack.Doubted = stored now h
     by first_ack.Counts = stored now h
     by first_ack.Brief = stored now h
+    by first_ack.Rested = stored now h
 
 -- the first ACK C may be that of a copy of the frame before
 abbrev pub eot_ack : ℕ → Hold → Said
-eot_ack now h = by h.first_ack
-  where
-    by : FirstAck → Said
-    by first_ack.Doubted = holding false h.at first_ack.Dropped say.Nothing h
-    by first_ack.Dropped = ack first_ack.Counts now h
-    by first_ack.Counts = ack first_ack.Counts now h
-    by first_ack.Brief = ack first_ack.Counts now h
+eot_ack now h =
+    if is_doubted h.first_ack then holding false h.at first_ack.Dropped say.Nothing h
+    else ack first_ack.Counts now h
 
 abbrev pub at_eot : ℕ → ℕ → Hold → Said
 at_eot byte now h =
@@ -149,17 +156,22 @@ by_kind k byte now h = other k byte now h
 -- The EOT of a file without bytes is acknowledged also by a receiver that never saw its block 0. So
 -- that block's own ACK has to come, where one may be that of a copy of the EOT before.
 abbrev pub is_anothers : Kind → ℕ → Hold → Bool
-is_anothers k byte h = by k h.first_ack
+is_anothers kind.Empty byte h = nat_eq byte 0x06 && is_doubted h.first_ack
+is_anothers _ byte h = false
+
+-- C behind an ACK that was dropped is that one's
+abbrev pub started : Hold → FirstAck
+started h = by h.first_ack
   where
-    by : Kind → FirstAck → Bool
-    by kind.Empty first_ack.Doubted = nat_eq byte 0x06
-    by _ _ = false
+    by : FirstAck → FirstAck
+    by first_ack.Dropped = first_ack.Counts
+    by known = known
 
 -- that ACK is not heard, nor is the C behind it
 abbrev pub passed_over : Bool → ℕ → Hold → Said
 passed_over is_anothers now h = record {
   hold = record h {
-    first_ack = if is_anothers then first_ack.Counts else h.first_ack;
+    first_ack = if is_anothers then first_ack.Dropped else started h;
     asks_left = if is_anothers then STALE_ASKS else h.asks_left - 1;
     asked_at = now;
   };

@@ -6,7 +6,7 @@ ghost use Rattle.std.specs.Prelude.{◌≡◌, false};
 ghost use Rattle.ym_heard.specs.Hold as table;
 
 use crate::ear::{ACK, CAN, NAK, START};
-use crate::limits::{BRIEF, MOMENT, STALE_ASKS, TOGETHER, WITHIN};
+use crate::limits::{BRIEF, MOMENT, RESTED, STALE_ASKS, TOGETHER, WITHIN};
 use crate::sent::Kind;
 
 /// What is known of the first ACK C of an EOT or of an empty file's block 0, and of the first ACK
@@ -18,21 +18,35 @@ pub enum FirstAck {
     /// It may be that of a copy of the frame before: it is dropped, behind block 1 where C comes
     /// with it.
     Doubted,
-    /// Its ACK was dropped, and its C is.
+    /// Its ACK was dropped, and its C is; so is another ACK before that.
     Dropped,
-    /// It came, and the C so that a brief moment is enough behind the end block. So it stays until
-    /// the next EOT.
+    /// It came, and the C right behind the ACK: a brief moment is enough behind the end block. So
+    /// it stays until the next EOT, where nothing is written again.
     Brief,
+    /// It came, and the C when the peer had waited: no moment is needed. It stays as long.
+    Rested,
 }
 
 impl FirstAck {
-    /// What was seen of an EOT stays until the next one.
-    fn kept(self) -> FirstAck
-        ensures { result ≡ table.kept self }
+    /// Behind a copy a doubt stays. Behind another frame what was seen of an EOT does: of a line on
+    /// which something was written again nothing is known.
+    fn kept(self, is_repeat: bool) -> FirstAck
+        ensures { result ≡ table.kept is_repeat self }
     {
         match self {
-            FirstAck::Brief => FirstAck::Brief,
-            FirstAck::Counts | FirstAck::Doubted | FirstAck::Dropped => FirstAck::Counts,
+            FirstAck::Doubted | FirstAck::Dropped if is_repeat => self,
+            FirstAck::Brief | FirstAck::Rested if !is_repeat => self,
+            _ => FirstAck::Counts,
+        }
+    }
+
+    /// Whether an ACK may be another frame's.
+    fn is_doubted(self) -> bool
+        ensures { result ≡ table.is_doubted self }
+    {
+        match self {
+            FirstAck::Doubted | FirstAck::Dropped => true,
+            _ => false,
         }
     }
 }
@@ -109,10 +123,10 @@ impl Hold {
     pub fn wrote(self, is_opening: bool, is_repeat: bool, is_doubted: bool, now: u64) -> Hold
         ensures { result ≡ table.wrote is_opening is_repeat is_doubted now self }
     {
-        let first_ack = match self.first_ack {
-            first_ack if is_repeat => first_ack,
-            _ if is_doubted => FirstAck::Doubted,
-            first_ack => first_ack.kept(),
+        let first_ack = if is_doubted && !is_repeat {
+            FirstAck::Doubted
+        } else {
+            self.first_ack.kept(is_repeat)
         };
         Hold {
             is_held: false,
@@ -148,8 +162,10 @@ impl Hold {
         ensures { result ≡ table.seen now self }
     {
         let apart = now.saturating_sub(self.at);
-        if apart < TOGETHER || MOMENT <= apart {
+        if apart < TOGETHER {
             FirstAck::Brief
+        } else if RESTED <= apart {
+            FirstAck::Rested
         } else {
             FirstAck::Counts
         }
@@ -161,6 +177,7 @@ impl Hold {
         ensures { result ≡ table.moment self }
     {
         match self.first_ack {
+            FirstAck::Rested => 0,
             FirstAck::Brief => BRIEF,
             FirstAck::Counts | FirstAck::Doubted | FirstAck::Dropped => MOMENT,
         }
@@ -195,10 +212,10 @@ impl Hold {
         ensures { result ≡ table.at_eot byte now self }
     {
         match byte {
-            ACK => match self.first_ack {
-                FirstAck::Doubted => self.holding(false, self.at, FirstAck::Dropped, Say::Nothing),
-                _ => self.ack(FirstAck::Counts, now),
-            },
+            ACK if self.first_ack.is_doubted() => {
+                self.holding(false, self.at, FirstAck::Dropped, Say::Nothing)
+            }
+            ACK => self.ack(FirstAck::Counts, now),
             START => self.start(now),
             NAK => self.holding(false, self.at, FirstAck::Counts, Say::Byte),
             _ => self.holding(false, self.at, self.first_ack, Say::Byte),
@@ -252,9 +269,20 @@ impl Hold {
     fn is_anothers(self, kind: Kind, byte: u8) -> bool
         ensures { result ≡ table.is_anothers kind byte self }
     {
-        match (kind, self.first_ack) {
-            (Kind::Empty, FirstAck::Doubted) => byte == ACK,
+        match kind {
+            Kind::Empty => byte == ACK && self.first_ack.is_doubted(),
             _ => false,
+        }
+    }
+
+    /// What is known of the first ACK behind a C that is not heard: it is that of the ACK that was
+    /// dropped, where one was.
+    fn started(self) -> FirstAck
+        ensures { result ≡ table.started self }
+    {
+        match self.first_ack {
+            FirstAck::Dropped => FirstAck::Counts,
+            first_ack => first_ack,
         }
     }
 
@@ -267,9 +295,9 @@ impl Hold {
                 is_held: self.is_held,
                 at: self.at,
                 first_ack: if is_anothers {
-                    FirstAck::Counts
+                    FirstAck::Dropped
                 } else {
-                    self.first_ack
+                    self.started()
                 },
                 asks_left: if is_anothers {
                     STALE_ASKS
@@ -326,9 +354,7 @@ impl Hold {
         ensures { self.new ≡ table.wrote false is_repeat false now self.old }
     {
         self.is_held = false;
-        if !is_repeat {
-            self.first_ack = self.first_ack.kept();
-        }
+        self.first_ack = self.first_ack.kept(is_repeat);
         self.asks_left = 0;
         self.asked_at = now;
     }

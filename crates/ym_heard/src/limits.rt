@@ -50,13 +50,20 @@ pub const MOMENT: u64 = 100;
 /// A line on which the C behind an EOT came so soon behind its ACK hands on at once what comes.
 pub const TOGETHER: u64 = 10;
 
-/// How long an end listens for CAN CAN there, and where that C came more than a moment behind the
-/// ACK, so that the peer had waited: more than the 16 for which a serial adapter of USB is said to
-/// keep bytes where nobody set it otherwise.
+/// How long an end listens for CAN CAN there: more than the 16 for which a serial adapter of USB is
+/// said to keep bytes where nobody set it otherwise.
 pub const BRIEF: u64 = 25;
+
+/// Where that C came so long behind the ACK, the peer had waited, as `rb` does: it writes nothing
+/// right behind the ACK of the end block, and CAN CAN is not listened for.
+pub const RESTED: u64 = 500;
 
 /// How many C behind a new block 0 are passed over.
 pub const STALE_ASKS: u8 = 10;
+
+/// How many data blocks have to be answered behind a frame that was written again, so that the
+/// answer to no copy is awaited: a block that was written again itself, and one that was not.
+pub const SHAKEN: u8 = 2;
 
 /// Behind so many bytes that are no control byte no ACK is heard.
 pub const OTHERS: u8 = 4;
@@ -70,6 +77,6 @@ pub const FULL: u64 = 2_048;
 /// How often in a row the quiet time behind a late ask is halved at most.
 pub const HALVINGS: u8 = 4;
 
-/// How long the first part of a sender's wait is: what asks behind it has waited, whatever a clock
-/// says.
+/// How long each part of a sender's wait is: what asks behind the first one has waited, whatever a
+/// clock says.
 pub const PATIENCE: u64 = 2_500;

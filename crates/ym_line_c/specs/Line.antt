@@ -23,7 +23,8 @@ timing_of k = record {
     first = k.front_first;
     second = k.front_second;
   };
-  is_shaken = flag_of k.is_shaken;
+  shaken = k.shaken;
+  is_refused = flag_of k.is_refused;
   vain = k.vain;
   has_cancel = flag_of k.has_cancel;
 }

@@ -46,8 +46,10 @@ kind_of n =
 
 abbrev pub first_ack_of : ℕ → FirstAck
 first_ack_of n =
-    if n == 0 then first_ack.Counts else (if n == 1 then first_ack.Doubted
-    else (if n == 2 then first_ack.Dropped else first_ack.Brief))
+    if n == 0 then first_ack.Counts
+    else (if n == 1 then first_ack.Doubted
+    else (if n == 2 then first_ack.Dropped
+    else (if n == 3 then first_ack.Brief else first_ack.Rested)))
 
 -- with the first byte of a block, what may be its number, and how many bytes came back
 abbrev pub echo_of : ℕ → ℕ → ℕ → ℕ → Echo
@@ -63,7 +65,9 @@ need_of n =
     else (if n == 1 then need.Quiet else (if n == 2 then need.Late else need.Several))
 
 abbrev pub heed_of : ℕ → Heed
-heed_of n = if n == 0 then heed.Open else (if n == 1 then heed.Can else heed.Other)
+heed_of n =
+    if n == 0 then heed.Open
+    else (if n == 1 then heed.Can else (if n == 2 then heed.Ack else heed.Other))
 
 -- what a read waits for: 0 the first bytes of a delivery, any other more of it
 abbrev pub wait_of : ℕ → Expected

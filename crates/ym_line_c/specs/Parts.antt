@@ -36,8 +36,10 @@ heard_of k = record {
   answered_at = k.answered_at;
   first = k.first;
   second = k.second;
+  answers = k.answers;
+  is_ack = flag_of k.is_ack;
   is_quiet = flag_of k.is_quiet;
-  has_waited = flag_of k.has_waited;
+  waits = k.waits;
   is_late = flag_of k.is_late;
 }
 

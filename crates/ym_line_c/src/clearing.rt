@@ -22,7 +22,7 @@ pub struct YmClearing {
     pub owed: u8,
     /// Whether anything came.
     pub has_brought: u8,
-    /// 0: no byte came; 1: CAN came last; any other: other bytes came.
+    /// 0: no byte came; 1: CAN came last; 2: ACK did; any other: other bytes came.
     pub heed: u8,
 }
 

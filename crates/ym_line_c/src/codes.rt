@@ -126,7 +126,8 @@ pub fn first_ack_of(code: u8) -> FirstAck
         0 => FirstAck::Counts,
         1 => FirstAck::Doubted,
         2 => FirstAck::Dropped,
-        _ => FirstAck::Brief,
+        3 => FirstAck::Brief,
+        _ => FirstAck::Rested,
     }
 }
 
@@ -139,6 +140,7 @@ pub fn code_of_first_ack(first_ack: FirstAck) -> u8
         FirstAck::Doubted => 1,
         FirstAck::Dropped => 2,
         FirstAck::Brief => 3,
+        FirstAck::Rested => 4,
     }
 }
 
@@ -199,6 +201,7 @@ pub fn heed_of(code: u8) -> Heed
     match code {
         0 => Heed::Open,
         1 => Heed::Can,
+        2 => Heed::Ack,
         _ => Heed::Other,
     }
 }
@@ -210,7 +213,8 @@ pub fn code_of_heed(heed: Heed) -> u8
     match heed {
         Heed::Open => 0,
         Heed::Can => 1,
-        Heed::Other => 2,
+        Heed::Ack => 2,
+        Heed::Other => 3,
     }
 }
 

@@ -10,6 +10,6 @@ mod parts;
 
 pub use bulk::{drop_bytes, hear_bytes};
 pub use clearing::YmClearing;
-pub use codes::{code_of_vain, role_of, wait_of};
+pub use codes::{code_of_vain, flag_of, role_of, wait_of};
 pub use line::YmLine;
 pub use parts::{YmEar, YmHeard, YmHold, YmOut, YmPace, YmSent};

@@ -41,8 +41,10 @@ pub struct YmLine {
     pub front_first: u8,
     /// Its second byte.
     pub front_second: u8,
-    /// Whether the line had to clear since the last data block.
-    pub is_shaken: u8,
+    /// Behind how many data blocks more that are answered the line is calm again.
+    pub shaken: u8,
+    /// Whether the EOT that was written last was refused before.
+    pub is_refused: u8,
     /// How often in a row it was let clear and nothing came.
     pub vain: u8,
     /// Whether CAN CAN came while it was.
@@ -69,7 +71,8 @@ impl YmLine {
                 first: self.front_first,
                 second: self.front_second,
             },
-            is_shaken: flag_of(self.is_shaken),
+            shaken: self.shaken,
+            is_refused: flag_of(self.is_refused),
             vain: self.vain,
             has_cancel: flag_of(self.has_cancel),
         }
@@ -92,7 +95,8 @@ impl YmLine {
         self.front_is_there = code_of_flag(timing.prefix.is_there);
         self.front_first = timing.prefix.first;
         self.front_second = timing.prefix.second;
-        self.is_shaken = code_of_flag(timing.is_shaken);
+        self.shaken = timing.shaken;
+        self.is_refused = code_of_flag(timing.is_refused);
         self.vain = timing.vain;
         self.has_cancel = code_of_flag(timing.has_cancel);
     }

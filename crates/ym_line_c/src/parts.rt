@@ -134,10 +134,14 @@ pub struct YmHeard {
     pub first: u8,
     /// The second byte.
     pub second: u8,
+    /// How many ACK a sender heard that came not right behind another.
+    pub answers: u8,
+    /// Whether the last byte that a sender heard was ACK.
+    pub is_ack: u8,
     /// Whether the last read found the line quiet.
     pub is_quiet: u8,
-    /// Whether any read waited in vain.
-    pub has_waited: u8,
+    /// How many reads waited in vain, or parts of one.
+    pub waits: u8,
     /// Whether any did before the first byte came.
     pub is_late: u8,
 }
@@ -154,8 +158,10 @@ impl YmHeard {
             answered_at: self.answered_at,
             first: self.first,
             second: self.second,
+            answers: self.answers,
+            is_ack: flag_of(self.is_ack),
             is_quiet: flag_of(self.is_quiet),
-            has_waited: flag_of(self.has_waited),
+            waits: self.waits,
             is_late: flag_of(self.is_late),
         }
     }
@@ -170,8 +176,10 @@ impl YmHeard {
         self.answered_at = heard.answered_at;
         self.first = heard.first;
         self.second = heard.second;
+        self.answers = heard.answers;
+        self.is_ack = code_of_flag(heard.is_ack);
         self.is_quiet = code_of_flag(heard.is_quiet);
-        self.has_waited = code_of_flag(heard.has_waited);
+        self.waits = heard.waits;
         self.is_late = code_of_flag(heard.is_late);
     }
 }
@@ -229,8 +237,8 @@ pub struct YmHold {
     pub asked_at: u64,
     /// Whether an ACK is held.
     pub is_held: u8,
-    /// 0: the next ACK C counts; 1: it may be that of a copy; 2: its ACK was dropped; any other: it
-    /// came, and CAN CAN is listened for briefly.
+    /// 0: the next ACK C counts; 1: it may be that of a copy; 2: its ACK was dropped; 3: it came,
+    /// and CAN CAN is listened for briefly; any other: not at all.
     pub first_ack: u8,
     /// How many more C may be passed over.
     pub asks_left: u8,

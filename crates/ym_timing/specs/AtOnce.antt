@@ -1,5 +1,5 @@
 -- A write behind an answer on a clean line: nothing has to clear before it (this profile).
-use Rattle.std.specs.Prelude.{◌≡◌, ℕ, ◌-◌, ◌&&◌, ◌||◌, not, Bool, true, false, nat_lt, List}
+use Rattle.std.specs.Prelude.{◌≡◌, ℕ, ◌-◌, ◌&&◌, ◌||◌, not, Bool, true, false, nat_lt, nat_eq, List}
 use Rattle.ym_timing.specs.Arrivals.{new_arrivals, is_noise}
 use Rattle.ym_timing.specs.Clears.{is_new_frame, is_unsure}
 use Rattle.ym_heard.specs.Ear as ear
@@ -22,7 +22,7 @@ pub record IsAnswered (now : ℕ) (t : Timing) : Type 0 where
   pub owed : t.out.owed ≡ owed.One
   pub some : nat_lt 0 t.heard.count ≡ true
   pub calm : is_unsure now t ≡ false
-  pub still : t.is_shaken ≡ false
+  pub still : t.shaken ≡ 0
 
 -- a sender goes on to another block
 pub record Follows (n : Sent) (now : ℕ) (t : Timing) : Type 0 where
@@ -62,7 +62,7 @@ led is_repeat n now t = record t {
 abbrev pub is_answered : ℕ → Timing → Bool
 is_answered now t =
     is_one t.out.owed && (nat_lt 0 t.heard.count && nat_lt t.heard.count FULL)
-    && nat_lt now (later t.heard.last HELD_UP) && not t.is_shaken
+    && nat_lt now (later t.heard.last HELD_UP) && nat_eq t.shaken 0
 
 abbrev pub follows : Sent → ℕ → Timing → Bool
 follows n now t = by t.role t.sent.kind n.kind

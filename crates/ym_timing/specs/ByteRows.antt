@@ -1,10 +1,11 @@
 -- What an end hears of a row of bytes, and a write behind which nothing was dropped (this profile).
 use Rattle.std.specs.Prelude.{ℕ, List, [], ◌∷◌, ◌++◌}
-use Rattle.ym_timing.specs.Clears.{purge}
+use Rattle.ym_timing.specs.Clears.{purge, dropped, after_dropped}
 use Rattle.ym_timing.specs.Timing.{said, after_byte}
 use Rattle.ym_timing.specs.Writing.{wrote}
 use Rattle.ym_heard.specs.declared.hold.Say.{Say}
 use Rattle.ym_heard.specs.declared.hold.Say.TheVariants as say
+use Rattle.ym_timing.specs.declared.purge.Purge.{Purge}
 use Rattle.ym_timing.specs.declared.timing.Timing.{Timing}
 
 -- the bytes that are heard of one
@@ -28,3 +29,9 @@ after_bytes (byte ∷ bytes) written now t =
 -- a write at this moment
 abbrev pub writes : List ℕ → ℕ → Timing → Timing
 writes bytes now t = wrote bytes (purge bytes now t) now t
+
+-- bytes that were dropped at this moment before a write
+abbrev pub drops : List ℕ → List ℕ → ℕ → Purge → Timing → Purge
+drops [] written now c t = c
+drops (byte ∷ bytes) written now c t =
+    drops bytes written now (dropped c byte written now t) (after_dropped c byte written now t)

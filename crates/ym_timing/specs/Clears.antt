@@ -120,11 +120,11 @@ abbrev pub purge : List ℕ → ℕ → Timing → Purge
 purge bytes now t = record {
   need = need_of (next t.sent bytes) now t;
   from = if was_held_up now t then now else counted_from (need_of (next t.sent bytes) now t) t;
-  owed = t.out.copies - 1;
+  owed = t.out.copies - max t.heard.answers 1;
   answered_at = t.heard.last;
   end_at = later now LONGEST;
-  has_brought = false;
-  heed = heed.Open;
+  has_brought = nat_lt 1 t.heard.answers;
+  heed = if t.heard.is_ack then heed.Ack else heed.Open;
 }
 
 -- ---- Until when
@@ -144,11 +144,22 @@ quiet_of Receiver = RECEIVER_QUIET
 abbrev pub apart_until : ℕ → Timing → ℕ
 apart_until from t = later (later from t.out.gap) APART
 
+-- A peer that never refused an EOT stores the file before it answers: rb takes a second.
+abbrev pub stores_by : Role → Kind → Bool → ℕ
+stores_by Sender kind.Eot false = SENDER_QUIET
+stores_by _ _ _ = 0
+
+abbrev pub stores_for : Timing → ℕ
+stores_for t = stores_by t.role t.sent.kind t.is_refused
+
+abbrev pub answers_until : Timing → ℕ
+answers_until t = later (later t.out.last_at (bound t.pace)) (stores_for t)
+
 -- as late as an answer may be
 abbrev pub overdue_at : Trust → ℕ → Timing → ℕ
 overdue_at trust.Unknown from t = apart_until from t
-overdue_at trust.Doubtful from t = later t.out.last_at (bound t.pace)
-overdue_at trust.Sure from t = later t.out.last_at (bound t.pace)
+overdue_at trust.Doubtful from t = answers_until t
+overdue_at trust.Sure from t = answers_until t
 
 abbrev pub several_until : ℕ → Timing → ℕ
 several_until from t =
@@ -160,15 +171,24 @@ late_quiet t = min (later t.pace.slowest (2 * MOMENT)) (quiet_of t.role)
 abbrev pub late_until : ℕ → Timing → ℕ
 late_until from t = later from (max (halved (late_quiet t) t.vain) MOMENT)
 
--- each copy of a block was answered
-abbrev pub counts_answers : Role → Kind → Bool
-counts_answers Sender kind.Data = true
-counts_answers Sender kind.Opening = true
-counts_answers Sender kind.Empty = true
-counts_answers _ _ = false
+-- the byte before was no ACK
+abbrev pub is_apart : Heed → Bool
+is_apart heed.Ack = false
+is_apart _ = true
 
+-- the last answer has come whole: a data block's is ACK alone, and behind block 0's ACK comes C
+abbrev pub whole_by : Role → Kind → Heed → Bool
+whole_by Sender kind.Data h = true
+whole_by Sender kind.Opening h = is_apart h
+whole_by Sender kind.Empty h = is_apart h
+whole_by _ _ h = false
+
+abbrev pub is_whole : Heed → Timing → Bool
+is_whole h t = whole_by t.role t.sent.kind h
+
+-- each copy of a block was answered
 abbrev pub is_answered : Purge → Timing → Bool
-is_answered c t = counts_answers t.role t.sent.kind && (c.has_brought && nat_eq c.owed 0)
+is_answered c t = is_whole c.heed t && nat_eq c.owed 0
 
 abbrev pub until_by : Need → Purge → Timing → ℕ
 until_by need.Nothing c t = 0
@@ -185,22 +205,34 @@ clear_at c t = min (if t.has_cancel then 0 else until_by c.need c t) c.end_at
 -- CAN, where CAN CAN may stand: a receiver knows it at the front alone
 abbrev pub may_stand : Role → Heed → Bool
 may_stand role heed.Open = true
+may_stand Sender heed.Ack = true
 may_stand Sender heed.Other = true
+may_stand Receiver heed.Ack = false
 may_stand Receiver heed.Other = false
 may_stand role heed.Can = false
 
+-- to a receiver ACK is a byte like others
+abbrev pub heeds_ack : Role → ℕ → Heed
+heeds_ack Sender byte = if nat_eq byte 0x06 then heed.Ack else heed.Other
+heeds_ack Receiver byte = heed.Other
+
 abbrev pub heeds : Role → ℕ → Heed → Heed
-heeds role byte h = if may_stand role h && nat_eq byte 0x18 then heed.Can else heed.Other
+heeds role byte h =
+    if may_stand role h && nat_eq byte 0x18 then heed.Can else heeds_ack role byte
 
 abbrev pub ends : ℕ → Heed → Bool
 ends byte heed.Can = nat_eq byte 0x18
-ends byte heed.Open = false
-ends byte heed.Other = false
+ends byte _ = false
+
+-- An ACK answers one copy more where it came later than the one before, or not right behind it:
+-- else a line may have doubled that one.
+abbrev pub is_next : ℕ → Purge → Bool
+is_next now c = nat_lt c.answered_at now || is_apart c.heed
 
 abbrev pub brings : Bool → Bool → ℕ → Purge → Purge
 brings counts answers now c = record c {
   from = if counts then now else c.from;
-  owed = if answers && nat_lt c.answered_at now then c.owed - 1 else c.owed;
+  owed = if answers && is_next now c then c.owed - 1 else c.owed;
   answered_at = if answers then now else c.answered_at;
   has_brought = true;
 }

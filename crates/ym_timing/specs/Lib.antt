@@ -2,8 +2,10 @@ pub mod ByteRows
 pub mod Clears
 pub mod Arrivals
 pub mod AtOnce
+pub mod EmptyExamples
 pub mod Out
 pub mod Pace
+pub mod StoodExamples
 pub mod Timing
 pub mod TimingExamples
 pub mod Writing

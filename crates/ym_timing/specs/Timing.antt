@@ -1,5 +1,5 @@
 -- The machine: until when an end waits, and what it hears (this profile).
-use Rattle.std.specs.Prelude.{ℕ, ◌+◌, nat_eq, nat_lt, ◌&&◌, not, Bool, true, false, List, length}
+use Rattle.std.specs.Prelude.{ℕ, ◌+◌, ◌*◌, nat_eq, nat_lt, ◌&&◌, not, Bool, true, false, List, length}
 use Rattle.std.specs.Prelude.{slice_index, max, if◌then◌else◌}
 use Rattle.ym_heard.specs.Ear.{new_ear, listen}
 use Rattle.ym_timing.specs.Arrivals.{new_arrivals, take_byte, take_reply, waited}
@@ -35,26 +35,32 @@ new_timing role = record {
   hold = new_hold;
   echoed = 0;
   prefix = record { is_there = false; first = 0; second = 0 };
-  is_shaken = false;
+  shaken = 0;
+  is_refused = false;
   vain = 0;
   has_cancel = false;
 }
 
 -- ---- Until when an end waits
 
--- a sender's wait for a reply has two parts
-abbrev pub early_in : Expected → Role → Bool → Bool
-early_in Within role has_waited = false
-early_in Reply Receiver has_waited = false
-early_in Reply Sender has_waited = not has_waited
+-- A sender's wait for a reply has parts. Each that is over has taken its time, whatever a clock
+-- says.
+abbrev pub part : Timing → ℕ
+part t = (t.heard.waits + 1) * PATIENCE
 
+abbrev pub early_in : Expected → Role → Timing → Bool
+early_in Within role t = false
+early_in Reply Receiver t = false
+early_in Reply Sender t = nat_lt (part t) (pace.wait t.role t.pace)
+
+-- it is not the last one
 abbrev pub is_early : Expected → Timing → Bool
-is_early wait t = early_in wait t.role t.heard.has_waited
+is_early wait t = early_in wait t.role t
 
 abbrev pub end_of : Expected → ℕ → Timing → ℕ
 end_of Within start t = later start (pace.within t.role t.pace)
 end_of Reply start t =
-    if is_early Reply t then later start PATIENCE else later start (pace.wait t.role t.pace)
+    if is_early Reply t then later start (part t) else later start (pace.wait t.role t.pace)
 
 -- behind these an ACK is held for a moment
 abbrev pub holds_a_moment : Kind → Bool

@@ -11,34 +11,34 @@ use Rattle.ym_timing.specs.declared.role.Role.TheVariants.{Sender, Receiver}
 use Rattle.ym_timing.specs.declared.timing.Timing.{Timing}
 use Rattle.ym_timing.specs.declared.timing.Expected.TheVariants.{Reply, Within}
 
-abbrev opening : List ℕ
+abbrev pub opening : List ℕ
 opening = 0x01 ∷ 0x00 ∷ 0xFF ∷ 0x61 ∷ 0x1A ∷ []
 
-abbrev block_1 : List ℕ
+abbrev pub block_1 : List ℕ
 block_1 = 0x01 ∷ 0x01 ∷ 0xFE ∷ 0x06 ∷ 0x1A ∷ []
 
-abbrev block_2 : List ℕ
+abbrev pub block_2 : List ℕ
 block_2 = 0x01 ∷ 0x02 ∷ 0xFD ∷ 0x06 ∷ 0x1A ∷ []
 
-abbrev block_3 : List ℕ
+abbrev pub block_3 : List ℕ
 block_3 = 0x01 ∷ 0x03 ∷ 0xFC ∷ 0x06 ∷ 0x1A ∷ []
 
-abbrev eot : List ℕ
+abbrev pub eot : List ℕ
 eot = 0x04 ∷ []
 
-abbrev end_block : List ℕ
+abbrev pub end_block : List ℕ
 end_block = 0x01 ∷ 0x00 ∷ 0xFF ∷ 0x00 ∷ 0x1A ∷ []
 
-abbrev ack : List ℕ
+abbrev pub ack : List ℕ
 ack = 0x06 ∷ []
 
-abbrev start : List ℕ
+abbrev pub start : List ℕ
 start = 0x43 ∷ []
 
-abbrev ack_start : List ℕ
+abbrev pub ack_start : List ℕ
 ack_start = 0x06 ∷ 0x43 ∷ []
 
-abbrev nak : List ℕ
+abbrev pub nak : List ℕ
 nak = 0x15 ∷ []
 
 abbrev cancel : List ℕ
@@ -47,7 +47,7 @@ cancel = 0x18 ∷ 0x18 ∷ []
 -- ---- A clean line
 
 -- a sender whose block 1 was answered in 12, and which has just written block 2
-abbrev quick : Timing
+abbrev pub quick : Timing
 quick = writes block_2 1024 (after_bytes ack block_1 1024 (writes block_1 1012
     (after_bytes ack_start opening 1012 (writes opening 1000 (new_timing Sender)))))
 
@@ -62,7 +62,7 @@ quick-clear = refl
 -- ---- U-Boot, and a damaged block
 
 -- it asks by C when two seconds brought no more of the block: no peer asks unasked so soon
-abbrev asked : Timing
+abbrev pub asked : Timing
 asked = writes block_2 3100 (after_bytes start block_2 3100 quick)
 
 asked-out : asked.out ≡ one 3100
@@ -148,6 +148,11 @@ ended_apart = writes end_block 9045
 end_apart-until : until Reply 9045 (after_bytes ack end_block 9057 ended_apart) ≡ 9157
 end_apart-until = refl
 
+-- so it is where the end block was written again: U-Boot may have printed by then
+end_again-until : until Reply 13250 (after_bytes ack end_block 13262 (writes end_block 13250
+    (after_bytes start end_block 13250 ended))) ≡ 13362
+end_again-until = refl
+
 -- ---- rb, which waits a second behind an EOT, and another one behind its ACK
 
 -- that says nothing of how long the answer to a block takes
@@ -162,9 +167,9 @@ stored_by_rb-pace = refl
 asked_by_rb : (writes opening 5048 (after_bytes start opening 5048 stored_by_rb)).out ≡ one 5048
 asked_by_rb = refl
 
--- and CAN CAN is listened for briefly behind the end block: it writes no C right behind an ACK
+-- and CAN CAN is not listened for behind the end block: it writes nothing right behind an ACK
 stored_by_rb-until : until Reply 3048 (after_bytes ack end_block 3048 (writes end_block 3036
-    (after_bytes start eot 3036 (after_bytes ack eot 2036 (writes eot 1036 quick))))) ≡ 3073
+    (after_bytes start eot 3036 (after_bytes ack eot 2036 (writes eot 1036 quick))))) ≡ 3048
 stored_by_rb-until = refl
 
 -- The first block 0 of all lost a byte: it asks a second behind that byte, and one more.
@@ -210,7 +215,7 @@ first_stored = refl
 
 -- ---- A line that delays by two seconds each way
 
-abbrev far : Timing
+abbrev pub far : Timing
 far = writes block_1 9000 (after_bytes ack_start opening 9000 (writes opening 5000
     (new_timing Sender)))
 
@@ -245,56 +250,6 @@ far_asked-clear = refl
 far_asked-next : clear_at (purge block_1 29000 (asked_again 29000 (writes block_1 25250 far_asked)))
     (asked_again 29000 (writes block_1 25250 far_asked)) ≡ 0
 far_asked-next = refl
-
--- ---- A file without bytes, behind a line that stood still
-
-abbrev opening_empty : List ℕ
-opening_empty = 0x01 ∷ 0x00 ∷ 0xFF ∷ 0x62 ∷ 0x00 ∷ 0x30 ∷ 0x20 ∷ 0x1A ∷ []
-
--- An EOT was written three times, and the answer to one of them came. Those to the others are
--- overdue long before block 0 of the next file is written.
-abbrev stored_late : Timing
-stored_late = after_bytes ack_start eot 24000 (writes eot 21036 (writes eot 11036 (writes eot 1036
-    (after_bytes ack block_2 1036 quick))))
-
-stored_late-clear : clear_at (purge opening_empty 24000 stored_late) stored_late ≡ 25250
-stored_late-clear = refl
-
--- Yet another one comes. It says nothing of block 0, and is not heard: a receiver that has no block
--- 0 would acknowledge the EOT of this file, too.
-abbrev stale : Timing
-stale = after_bytes ack_start opening_empty 31000 (writes opening_empty 25250 stored_late)
-
-stale-heard : heard_of ack_start opening_empty 31000 (writes opening_empty 25250 stored_late) ≡ []
-stale-heard = refl
-
--- so block 0 is asked for, written once more and answered
-stale-asked : heard_of start opening_empty 34000 stale ≡ start
-stale-asked = refl
-
-stale-answered : heard_of ack_start opening_empty 34012 (writes opening_empty 34000
-    (after_bytes start opening_empty 34000 stale)) ≡ ack_start
-stale-answered = refl
-
--- The C of the ACK that was dropped is no ask, however soon it came, and the next one is.
-stale_soon : heard_of (ack_start ++ start) opening_empty 25750 (writes opening_empty 25250
-    stored_late) ≡ []
-stale_soon = refl
-
-stale_soon-asked : heard_of start opening_empty 28750 (after_bytes ack_start opening_empty 25750
-    (writes opening_empty 25250 stored_late)) ≡ start
-stale_soon-asked = refl
-
--- The first block 0 of all is such a one, and asked for so soon that its peer most likely lacks it.
--- Its sender had started late, and the ask before may have waited for it. So both may be answered.
-first_empty : (writes opening_empty 2200 (after_bytes start opening_empty 2200
-    (writes opening_empty 1000 (after_bytes start [] 1000 (new_timing Sender))))).out
-    ≡ again true 2200 (one 1000)
-first_empty = refl
-
--- A file with bytes needs no such care: its block 1 is refused by who has no block 0.
-stale-other : heard_of ack_start opening 31000 (writes opening 25250 stored_late) ≡ ack_start
-stale-other = refl
 
 -- ---- An answer that was stuck
 
@@ -387,6 +342,21 @@ refused = refl
 
 stored : heard_of ack_start eot 9000 (writes eot 8988 quick) ≡ ack_start
 stored = refl
+
+-- ---- A wait for a reply
+
+-- it has parts, and the last one is over when the wait is
+abbrev waited_once : Timing
+waited_once = after_vain Reply 3500 (writes opening 1000 (new_timing Sender))
+
+waits-first : until Reply 1000 (writes opening 1000 (new_timing Sender)) ≡ 3500
+waits-first = refl
+
+waits-next : until Reply 1000 waited_once ≡ 6000
+waits-next = refl
+
+waits-last : until Reply 1000 (after_vain Reply 8500 (after_vain Reply 6000 waited_once)) ≡ 11000
+waits-last = refl
 
 -- ---- A clock that runs backwards, and one that stands still
 

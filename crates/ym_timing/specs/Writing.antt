@@ -3,7 +3,7 @@
 -- An ask answers the write before it where it came so soon behind the reply before that no peer
 -- can have asked because it waited. Where it came when the answer was overdue, no answer is
 -- awaited but the next; else each copy may be answered.
-use Rattle.std.specs.Prelude.{ℕ, ◌-◌, nat_lt, nat_le, ◌&&◌, ◌||◌, not, Bool, true, false}
+use Rattle.std.specs.Prelude.{ℕ, ◌-◌, nat_eq, nat_lt, nat_le, ◌&&◌, ◌||◌, not, Bool, true, false}
 use Rattle.std.specs.Prelude.{List, max, if◌then◌else◌}
 use Rattle.ym_timing.specs.Clears.{is_new_frame, is_taken, vain_after}
 use Rattle.ym_heard.specs.Ear as ear
@@ -17,7 +17,7 @@ use Rattle.ym_timing.specs.declared.purge.Purge.{Purge}
 use Rattle.ym_timing.specs.declared.purge.Need.{Need}
 use Rattle.ym_timing.specs.declared.purge.Need.TheVariants as need
 use Rattle.ym_heard.specs.declared.limits.TheConstants.{FRAGMENT, LIKELY, PATIENCE}
-use Rattle.ym_heard.specs.declared.limits.TheConstants.{SENDER_QUIET, SOON, UNASKED}
+use Rattle.ym_heard.specs.declared.limits.TheConstants.{SENDER_QUIET, SHAKEN, SOON, UNASKED}
 use Rattle.ym_timing.specs.declared.out.Out.{Out}
 use Rattle.ym_timing.specs.declared.out.Owed.{Owed}
 use Rattle.ym_timing.specs.declared.out.Owed.TheVariants as owed
@@ -125,7 +125,7 @@ soon t = soon_by t.pace.trust t.pace.slowest
 -- the ask came so soon behind the reply before
 abbrev pub asked_within : ℕ → Timing → Bool
 asked_within long t =
-    nat_lt 0 t.heard.count && (not t.heard.has_waited && nat_le (t.heard.since - t.led_at) long)
+    nat_lt 0 t.heard.count && (nat_eq t.heard.waits 0 && nat_le (t.heard.since - t.led_at) long)
 
 -- the ask came too soon to be unasked
 abbrev pub is_soon : Timing → Bool
@@ -207,19 +207,56 @@ prefix_after taken t = prefix_by t.role taken t
 
 -- ---- What an answer may be taken for
 
-abbrev pub is_data : Kind → Bool
-is_data kind.Data = true
-is_data _ = false
+abbrev pub is_nak : Timing → Bool
+is_nak t = nat_eq t.heard.first 0x15
+
+abbrev pub is_eot : Kind → Bool
+is_eot kind.Eot = true
+is_eot _ = false
+
+-- a receiver that confirms twice refuses each EOT once: that says nothing of the line
+abbrev pub is_first_refusal : Timing → Bool
+is_first_refusal t = is_eot t.sent.kind && (is_nak t && not t.is_refused)
+
+abbrev pub refused_by : Role → Kind → Bool → Timing → Bool
+refused_by Sender kind.Eot is_repeat t = is_repeat && (t.is_refused || is_nak t)
+refused_by _ _ is_repeat t = t.is_refused
+
+abbrev pub is_refused_after : Bool → Timing → Bool
+is_refused_after is_repeat t = refused_by t.role t.sent.kind is_repeat t
+
+-- Behind whatever else a sender writes again an answer too many may come. The line is calm where a
+-- data block behind it led on that was not written again.
+abbrev pub shaken_by : Role → Timing → ℕ
+shaken_by Sender t = if is_first_refusal t then t.shaken else SHAKEN
+shaken_by Receiver t = t.shaken
+
+abbrev pub shaken_by_copy : Timing → ℕ
+shaken_by_copy t = shaken_by t.role t
+
+abbrev pub calmer : Kind → ℕ → ℕ
+calmer kind.Data shaken = shaken - 1
+calmer _ shaken = shaken
 
 -- the line had to clear, and more than one answer may have come
 abbrev pub is_shaken_by : Purge → Timing → Bool
 is_shaken_by c t = has_cleared c && not (is_one t.out.owed)
 
--- so it was since the last data block
-abbrev pub is_shaken_after : Bool → Purge → Timing → Bool
-is_shaken_after is_repeat c t =
-    if is_repeat then t.is_shaken
-    else (is_shaken_by c t || (t.is_shaken && not (is_data t.sent.kind)))
+abbrev pub shaken_behind : Purge → Timing → ℕ
+shaken_behind c t =
+    if is_shaken_by c t then max (calmer t.sent.kind t.shaken) 1 else calmer t.sent.kind t.shaken
+
+abbrev pub shaken_after : Bool → Purge → Timing → ℕ
+shaken_after is_repeat c t = if is_repeat then shaken_by_copy t else shaken_behind c t
+
+-- block 1 behind block 0
+abbrev pub first_kinds : Kind → Kind → Bool
+first_kinds kind.Opening kind.Data = true
+first_kinds kind.Empty kind.Data = true
+first_kinds _ _ = false
+
+abbrev pub is_first_block : Sent → Sent → Bool
+is_first_block last n = first_kinds last.kind n.kind
 
 -- Block 0 of a file without bytes, and an EOT right behind one. The EOT of such a file is
 -- acknowledged also by a receiver that never saw its block 0, so nothing else would show it.
@@ -232,14 +269,20 @@ empty_kinds _ _ = false
 abbrev pub is_of_empty_file : Sent → Sent → Bool
 is_of_empty_file last n = empty_kinds last.kind n.kind
 
--- the first ACK may be that of a copy of the frame before: of a block 0 that most likely was
--- damaged, or where the line had to clear before block 0 or the EOT of an empty file
-abbrev pub is_doubted : Sent → Bool → Bool → Timing → Bool
+-- a frame of a file without bytes, on a line that is shaken
+abbrev pub is_unsafe : Sent → ℕ → Timing → Bool
+is_unsafe n shaken t = nat_lt 0 shaken && is_of_empty_file t.sent n
+
+-- The first ACK may be that of a copy of the frame before: of block 0, where it most likely was
+-- damaged or several copies may be answered, or of what stands before such a frame. Ends ask for
+-- block 0 while it is under way, where a line stands still or one of them starts late.
+abbrev pub is_doubted : Sent → Bool → ℕ → Timing → Bool
 is_doubted n taken shaken t = by t.out.owed
   where
     by : Owed → Bool
     by owed.Likely = taken
-    by _ = shaken && is_of_empty_file t.sent n
+    by owed.Several = taken && is_first_block t.sent n || is_unsafe n shaken t
+    by _ = is_unsafe n shaken t
 
 -- ---- The write
 
@@ -253,10 +296,11 @@ wrote_next n c now t = record {
   heard = new_arrivals;
   ear = ear.wrote t.ear;
   hold = hold.wrote (is_opening n) (is_same t.sent n)
-      (is_doubted n (is_taken n t) (is_shaken_after (is_same t.sent n) c t) t) now t.hold;
+      (is_doubted n (is_taken n t) (shaken_after (is_same t.sent n) c t) t) now t.hold;
   echoed = 0;
   prefix = prefix_after (is_taken n t) t;
-  is_shaken = is_shaken_after (is_same t.sent n) c t;
+  shaken = shaken_after (is_same t.sent n) c t;
+  is_refused = is_refused_after (is_same t.sent n) t;
   vain = vain_after t.vain c;
   has_cancel = t.has_cancel;
 }

@@ -22,10 +22,14 @@ pub struct Arrivals {
     pub first: u8,
     /// The second byte.
     pub second: u8,
+    /// How many ACK a sender heard that came not right behind another; 255 stands for more.
+    pub answers: u8,
+    /// Whether the last byte that a sender heard was ACK.
+    pub is_ack: bool,
     /// Whether the last read found the line quiet.
     pub is_quiet: bool,
-    /// Whether any read did, or a part of one.
-    pub has_waited: bool,
+    /// How many reads waited in vain, or parts of one; 255 stands for more.
+    pub waits: u8,
     /// Whether any did before the first byte came.
     pub is_late: bool,
 }
@@ -42,8 +46,10 @@ impl Arrivals {
             answered_at: 0,
             first: 0,
             second: 0,
+            answers: 0,
+            is_ack: false,
             is_quiet: false,
-            has_waited: false,
+            waits: 0,
             is_late: false,
         }
     }
@@ -63,10 +69,12 @@ impl Arrivals {
             answered_at: self.answered_at,
             first: if self.count == 0 { byte } else { self.first },
             second: if self.count == 1 { byte } else { self.second },
+            answers: self.answers,
+            is_ack: self.is_ack,
             is_quiet: false,
-            has_waited: self.has_waited,
+            waits: self.waits,
             is_late: if self.count == 0 {
-                self.has_waited
+                0 < self.waits
             } else {
                 self.is_late
             },
@@ -78,19 +86,26 @@ impl Arrivals {
         ensures { result ≡ table.take_reply byte now self }
     {
         let heard = self.take(byte, now);
+        let is_ack = byte == ACK;
         Arrivals {
             count: heard.count,
             since: heard.since,
             last: heard.last,
-            answered_at: if self.count == 0 || byte == ACK {
+            answered_at: if self.count == 0 || is_ack {
                 now
             } else {
                 self.answered_at
             },
             first: heard.first,
             second: heard.second,
+            answers: if is_ack && !self.is_ack {
+                self.answers.saturating_add(1)
+            } else {
+                self.answers
+            },
+            is_ack,
             is_quiet: heard.is_quiet,
-            has_waited: heard.has_waited,
+            waits: heard.waits,
             is_late: heard.is_late,
         }
     }
@@ -111,8 +126,10 @@ impl Arrivals {
             answered_at: self.answered_at,
             first: self.first,
             second: self.second,
+            answers: self.answers,
+            is_ack: self.is_ack,
             is_quiet: false,
-            has_waited: self.has_waited,
+            waits: self.waits,
             is_late: self.is_late,
         }
     }
@@ -143,8 +160,10 @@ impl Arrivals {
             answered_at: self.answered_at,
             first: self.first,
             second: self.second,
+            answers: self.answers,
+            is_ack: self.is_ack,
             is_quiet,
-            has_waited: true,
+            waits: self.waits.saturating_add(1),
             is_late: self.is_late,
         }
     }

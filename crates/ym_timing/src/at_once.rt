@@ -20,7 +20,7 @@ impl Timing {
     {
         let is_some = 0 < self.heard.count && self.heard.count < FULL;
         let is_soon = now < self.heard.last.saturating_add(HELD_UP);
-        self.is_one_owed() && is_some && is_soon && !self.is_shaken
+        self.is_one_owed() && is_some && is_soon && self.shaken == 0
     }
 
     /// Whether a sender goes on to another block.

@@ -32,6 +32,8 @@ pub enum Heed {
     Open,
     /// CAN came last, where CAN CAN may stand.
     Can,
+    /// ACK came last to a sender.
+    Ack,
     /// Other bytes came.
     Other,
 }
@@ -85,8 +87,19 @@ impl Heed {
         ensures { result ≡ table.heeds role byte self }
     {
         match (self, role) {
-            (Heed::Open, _) | (Heed::Other, Role::Sender) if byte == CAN => Heed::Can,
+            (Heed::Open, _) | (Heed::Ack | Heed::Other, Role::Sender) if byte == CAN => Heed::Can,
+            (_, Role::Sender) if byte == ACK => Heed::Ack,
             _ => Heed::Other,
+        }
+    }
+
+    /// Whether the byte before was no ACK.
+    fn is_apart(self) -> bool
+        ensures { result ≡ table.is_apart self }
+    {
+        match self {
+            Heed::Ack => false,
+            _ => true,
         }
     }
 
@@ -96,7 +109,7 @@ impl Heed {
     {
         match self {
             Heed::Can => byte == CAN,
-            Heed::Open | Heed::Other => false,
+            Heed::Open | Heed::Ack | Heed::Other => false,
         }
     }
 }
@@ -201,11 +214,26 @@ impl Timing {
             } else {
                 self.counted_from(need)
             },
-            owed: self.out.copies.saturating_sub(1),
+            owed: self.out.copies.saturating_sub(self.heard.answers.max(1)),
             answered_at: self.heard.last,
             end_at: now.saturating_add(LONGEST),
-            has_brought: false,
-            heed: Heed::Open,
+            has_brought: 1 < self.heard.answers,
+            heed: if self.heard.is_ack {
+                Heed::Ack
+            } else {
+                Heed::Open
+            },
+        }
+    }
+
+    /// How much later an EOT may be answered than a block: a peer that never refused one stores the
+    /// file first. `rb` takes a second.
+    fn stores_for(&self) -> u64
+        ensures { result ≡ table.stores_for self.now }
+    {
+        match (self.role, self.sent.kind) {
+            (Role::Sender, Kind::Eot) if !self.is_refused => SENDER_QUIET,
+            _ => 0,
         }
     }
 
@@ -216,7 +244,10 @@ impl Timing {
         let apart = from.saturating_add(self.out.gap).saturating_add(APART);
         let late = match self.pace.trust {
             Trust::Unknown => apart,
-            Trust::Doubtful | Trust::Sure => self.out.last_at.saturating_add(self.pace.bound()),
+            Trust::Doubtful | Trust::Sure => {
+                let overdue_at = self.out.last_at.saturating_add(self.pace.bound());
+                overdue_at.saturating_add(self.stores_for())
+            }
         };
         from.saturating_add(quiet_of(self.role))
             .max(apart.min(late))
@@ -232,16 +263,23 @@ impl Timing {
         from.saturating_add(quiet.max(MOMENT))
     }
 
+    /// Whether the last answer has come whole, as far as this can be told: a data block's is ACK
+    /// alone, and behind block 0's ACK comes C.
+    fn is_whole(&self, heed: Heed) -> bool
+        ensures { result ≡ table.is_whole heed self.now }
+    {
+        match (self.role, self.sent.kind) {
+            (Role::Sender, Kind::Data) => true,
+            (Role::Sender, Kind::Opening | Kind::Empty) => heed.is_apart(),
+            _ => false,
+        }
+    }
+
     /// Whether each copy of a block was answered.
     fn is_answered(&self, purge: Purge) -> bool
         ensures { result ≡ table.is_answered purge self.now }
     {
-        match (self.role, self.sent.kind) {
-            (Role::Sender, Kind::Data | Kind::Opening | Kind::Empty) => {
-                purge.has_brought && purge.owed == 0
-            }
-            _ => false,
-        }
+        self.is_whole(purge.heed) && purge.owed == 0
     }
 
     /// Until when what comes is dropped; 0 where nothing is to be.
@@ -261,11 +299,12 @@ impl Timing {
 }
 
 impl Purge {
-    /// A byte came that counts, or that does not.
+    /// A byte came that counts, or that does not. An ACK answers one copy more where it came later
+    /// than the one before, or not right behind it: else a line may have doubled that one.
     fn brings(self, counts: bool, answers: bool, now: u64) -> Purge
         ensures { result ≡ table.brings counts answers now self }
     {
-        let is_next = answers && self.answered_at < now;
+        let is_next = answers && (self.answered_at < now || self.heed.is_apart());
         Purge {
             need: self.need,
             from: if counts { now } else { self.from },

@@ -66,8 +66,11 @@ pub struct Timing {
     pub echoed: usize,
     /// The frame that a receiver heard last.
     pub prefix: Prefix,
-    /// Whether the line had to clear since the last data block.
-    pub is_shaken: bool,
+    /// Behind how many data blocks more that are answered the line is calm again: a frame was
+    /// written again, or the line had to clear while more than one answer was owed.
+    pub shaken: u8,
+    /// Whether the EOT that was written last was refused before.
+    pub is_refused: bool,
     /// How often in a row a line was let clear and nothing came.
     pub vain: u8,
     /// Whether CAN CAN came while it was.
@@ -94,19 +97,28 @@ impl Timing {
                 first: 0,
                 second: 0,
             },
-            is_shaken: false,
+            shaken: 0,
+            is_refused: false,
             vain: 0,
             has_cancel: false,
         }
     }
 
-    /// Whether a sender's wait for a reply is in its first part. It has two, so that an end knows
-    /// of an answer that came late even where its clock stands still.
+    /// How long behind its start the part of a sender's wait for a reply is over that it is in. A
+    /// part that is over has taken its time, whatever a clock says. So an end knows how late an
+    /// answer came but for one part, also where its clock stands still or jumps back.
+    fn part(&self) -> u64
+        ensures { result ≡ table.part self.now }
+    {
+        (u64::from(self.heard.waits) + 1) * PATIENCE
+    }
+
+    /// Whether a sender's wait for a reply is in a part that is not the last one.
     fn is_early(&self, wait: Expected) -> bool
         ensures { result ≡ table.is_early wait self.now }
     {
         match (wait, self.role) {
-            (Expected::Reply, Role::Sender) => !self.heard.has_waited,
+            (Expected::Reply, Role::Sender) => self.part() < self.pace.wait(self.role),
             _ => false,
         }
     }
@@ -117,7 +129,7 @@ impl Timing {
     {
         let end = match wait {
             Expected::Within => start.saturating_add(self.pace.within(self.role)),
-            Expected::Reply if self.is_early(wait) => start.saturating_add(PATIENCE),
+            Expected::Reply if self.is_early(wait) => start.saturating_add(self.part()),
             Expected::Reply => start.saturating_add(self.pace.wait(self.role)),
         };
         if !self.hold.is_held {

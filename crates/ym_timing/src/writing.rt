@@ -11,7 +11,7 @@ use crate::pace::{Pace, Trust};
 use crate::purge::{Need, Purge, vain_after};
 use crate::role::Role;
 use crate::timing::{Prefix, Timing};
-use ym_heard::{FRAGMENT, Kind, LIKELY, PATIENCE, SENDER_QUIET, SOON, Sent, UNASKED};
+use ym_heard::{FRAGMENT, Kind, LIKELY, NAK, PATIENCE, SENDER_QUIET, SHAKEN, SOON, Sent, UNASKED};
 
 /// Whether it was let clear because answers were awaited, and nothing came.
 fn was_vain(purge: Purge) -> bool
@@ -128,7 +128,7 @@ impl Timing {
         ensures { result ≡ table.asked_within long self.now }
     {
         let took = self.heard.since.saturating_sub(self.led_at);
-        0 < self.heard.count && !self.heard.has_waited && took <= long
+        0 < self.heard.count && self.heard.waits == 0 && took <= long
     }
 
     /// Whether it is block 0 of a file without bytes, and nothing is known of the line. An end that
@@ -218,31 +218,80 @@ impl Timing {
         }
     }
 
-    /// Whether the line had to clear since the last data block, where more than one answer may
-    /// have come.
-    fn is_shaken_after(&self, is_repeat: bool, purge: Purge) -> bool
-        ensures { result ≡ table.is_shaken_after is_repeat purge self.now }
+    /// Whether the peer refused what was written last.
+    fn is_nak(&self) -> bool
+        ensures { result ≡ table.is_nak self.now }
     {
-        let is_calm = match self.sent.kind {
-            Kind::Data => true,
+        self.heard.first == NAK
+    }
+
+    /// Whether an EOT is refused for the first time, as a receiver does that confirms it twice.
+    fn is_first_refusal(&self) -> bool
+        ensures { result ≡ table.is_first_refusal self.now }
+    {
+        match self.sent.kind {
+            Kind::Eot => self.is_nak() && !self.is_refused,
             _ => false,
-        };
-        if is_repeat {
-            self.is_shaken
-        } else {
-            (has_cleared(purge) && !self.is_one_owed()) || (self.is_shaken && !is_calm)
         }
     }
 
-    /// Whether the first ACK of what is written now may be that of a copy of the frame before: of a
-    /// block 0 that most likely was damaged, or where the line had to clear before block 0 or the
-    /// EOT of an empty file.
-    fn is_doubted(&self, next: Sent, is_taken: bool, is_shaken: bool) -> bool
-        ensures { result ≡ table.is_doubted next is_taken is_shaken self.now }
+    /// Whether the EOT that is written now was refused before.
+    fn is_refused_after(&self, is_repeat: bool) -> bool
+        ensures { result ≡ table.is_refused_after is_repeat self.now }
     {
+        match (self.role, self.sent.kind) {
+            (Role::Sender, Kind::Eot) => is_repeat && (self.is_refused || self.is_nak()),
+            _ => self.is_refused,
+        }
+    }
+
+    /// How shaken the line is behind what a sender writes again.
+    fn shaken_by_copy(&self) -> u8
+        ensures { result ≡ table.shaken_by_copy self.now }
+    {
+        match self.role {
+            Role::Sender if !self.is_first_refusal() => SHAKEN,
+            _ => self.shaken,
+        }
+    }
+
+    /// How shaken it is behind an answer that led on: one step less behind a data block.
+    fn shaken_behind(&self, purge: Purge) -> u8
+        ensures { result ≡ table.shaken_behind purge self.now }
+    {
+        let left = match self.sent.kind {
+            Kind::Data => self.shaken.saturating_sub(1),
+            _ => self.shaken,
+        };
+        if has_cleared(purge) && !self.is_one_owed() {
+            left.max(1)
+        } else {
+            left
+        }
+    }
+
+    /// How shaken the line is behind a write.
+    fn shaken_after(&self, is_repeat: bool, purge: Purge) -> u8
+        ensures { result ≡ table.shaken_after is_repeat purge self.now }
+    {
+        if is_repeat {
+            self.shaken_by_copy()
+        } else {
+            self.shaken_behind(purge)
+        }
+    }
+
+    /// Whether the first ACK of what is written now may be that of a copy of the frame before: of
+    /// block 0, where it most likely was damaged or several copies may be answered, or, on a line
+    /// that is shaken, of what stands before block 0 or the EOT of an empty file.
+    fn is_doubted(&self, next: Sent, is_taken: bool, shaken: u8) -> bool
+        ensures { result ≡ table.is_doubted next is_taken shaken self.now }
+    {
+        let is_empty_file = 0 < shaken && is_of_empty_file(self.sent, next);
         match self.out.owed {
             Owed::Likely => is_taken,
-            _ => is_shaken && is_of_empty_file(self.sent, next),
+            Owed::Several => is_taken && is_first_block(self.sent, next) || is_empty_file,
+            _ => is_empty_file,
         }
     }
 
@@ -254,8 +303,9 @@ impl Timing {
         let next = self.sent.then(bytes);
         let is_repeat = self.sent.is(next);
         let is_taken = self.is_taken(next);
-        let is_shaken = self.is_shaken_after(is_repeat, purge);
-        let is_doubted = self.is_doubted(next, is_taken, is_shaken);
+        let shaken = self.shaken_after(is_repeat, purge);
+        let is_refused = self.is_refused_after(is_repeat);
+        let is_doubted = self.is_doubted(next, is_taken, shaken);
         let pace = if self.leads_on(is_taken) {
             self.pace_after(purge)
         } else {
@@ -278,7 +328,8 @@ impl Timing {
         self.hold = hold;
         self.echoed = 0;
         self.prefix = prefix;
-        self.is_shaken = is_shaken;
+        self.shaken = shaken;
+        self.is_refused = is_refused;
         self.vain = vain_after(self.vain, purge);
     }
 }
@@ -289,6 +340,16 @@ fn is_opening(next: Sent) -> bool
 {
     match next.kind {
         Kind::Opening | Kind::Empty => true,
+        _ => false,
+    }
+}
+
+/// Whether it is block 1 behind block 0.
+fn is_first_block(last: Sent, next: Sent) -> bool
+    ensures { result ≡ table.is_first_block last next }
+{
+    match (last.kind, next.kind) {
+        (Kind::Opening | Kind::Empty, Kind::Data) => true,
         _ => false,
     }
 }

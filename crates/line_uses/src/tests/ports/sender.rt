@@ -22,12 +22,12 @@ fn a_block_costs_one_read_and_three_looks(rt: HostRuntime) -> Result<(), Fail> {
 }
 
 #[test]
-fn the_wait_for_a_reply_has_two_parts(rt: HostRuntime) -> Result<(), Fail> {
-    let moments = [1000, 1000, 3500, 11_000];
-    let mut port = end_over(rt.alloc(), Role::Sender, &moments, &[&[], &[]])?;
+fn the_wait_for_a_reply_has_parts(rt: HostRuntime) -> Result<(), Fail> {
+    let moments = [1000, 1000, 3500, 6000, 8500, 11_000];
+    let mut port = end_over(rt.alloc(), Role::Sender, &moments, &[&[], &[], &[], &[]])?;
     assert!(rt; port.write(OPENING).is_ok());
     assert!(rt; hears(&mut port, Wait::Reply, &[]));
-    assert!(rt; has_waited(&port, &[2500, 7500]));
+    assert!(rt; has_waited(&port, &[2500, 2500, 2500, 2500]));
     Ok(())
 }
 
@@ -68,9 +68,10 @@ fn the_last_ack_is_heard_behind_a_moment(rt: HostRuntime) -> Result<(), Fail> {
 #[test]
 fn answers_to_copies_are_dropped(rt: HostRuntime) -> Result<(), Fail> {
     let moments = [
-        1000, 1000, 3500, 11_000, 11_000, 11_000, 11_012, 11_012, 11_500, 11_500, 11_512,
+        1000, 1000, 3500, 6000, 8500, 11_000, 11_000, 11_000, 11_012, 11_012, 11_500, 11_500,
+        11_512,
     ];
-    let pieces: [&[u8]; 5] = [&[], &[], ACK, ACK, ACK];
+    let pieces: [&[u8]; 7] = [&[], &[], &[], &[], ACK, ACK, ACK];
     let mut port = end_over(rt.alloc(), Role::Sender, &moments, &pieces)?;
     assert!(rt; port.write(BLOCK_1).is_ok());
     assert!(rt; hears(&mut port, Wait::Reply, &[]));

@@ -19,7 +19,7 @@ module _ (bytes : List ℕ) (l : Line) (t : Tape) (sender : l.timing.role ≡ Se
 
   purge-is : Clears l.timing.heard.answered_at (later (began l t) 60000) l.timing (clears.purge bytes (began l t) l.timing) l.timing
   purge-is = record {
-    same = record { role = refl; pace = refl; out = refl };
+    same = record { role = refl; pace = refl; out = refl; sent = refl; refused = refl };
     need = several;
     from = either (λ x. l.timing.heard.answered_at ≤ x) (clears.was_held_up (began l t) l.timing) (began l t) _ (λ _. before) (λ _. omega (arith, counted));
     end_is = refl;

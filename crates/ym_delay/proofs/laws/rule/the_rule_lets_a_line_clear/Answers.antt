@@ -1,5 +1,5 @@
 use Rattle.std.proofs.Common.{◌≡◌, ◌⊎◌, ◌+◌, ◌-◌, ◌^◌, ◌<◌, ◌≤◌, ◌&&◌, inl, inr, ℕ, zero, suc, min, max, nat_eq, nat_lt, nat_le, not, Bool, true, false, List, [], ◌∷◌, refl, sym, subst, arith}
-use Rattle.ym_timing.specs.Clears.{apart_until, counts_answers, overdue_at, quiet_of, several_until}
+use Rattle.ym_timing.specs.Clears.{answers_until, apart_until, is_whole, overdue_at, quiet_of, several_until}
 use Rattle.ym_timing.specs.Pace.{bound}
 use Rattle.ym_heard.specs.Times.{later}
 use Rattle.ym_timing.specs.Writing.{asked_within, is_opening, is_overdue, is_soon, is_unproven, late_by, likely_by, prompted_by, soon, soon_by}
@@ -35,10 +35,13 @@ ends-enough : (goal a b next : ℕ) → goal ≤ a → goal ≤ b → min a b �
 ends-enough goal a b next one other ends = omega (arith, one, other, ends)
 
 module _ (span at next : ℕ) (rule : WaitsByRule span at next) where
+  stored : span ≤ bound rule.timing.pace → at + span ≤ answers_until rule.timing
+  stored seen = let last = rule.last in let within = rule.within in omega (arith, last, seen, within)
+
   overdue : (trust : Trust) → IsSeen trust span rule.timing → at + span ≤ apart_until rule.timing.heard.answered_at rule.timing → at + span ≤ overdue_at trust rule.timing.heard.answered_at rule.timing
   overdue Unknown seen apart = apart
-  overdue Doubtful seen apart = later-enough (at + span) rule.timing.out.last_at (bound rule.timing.pace) (let last = rule.last in omega (arith, last, seen)) rule.within
-  overdue Sure seen apart = later-enough (at + span) rule.timing.out.last_at (bound rule.timing.pace) (let last = rule.last in omega (arith, last, seen)) rule.within
+  overdue Doubtful seen apart = stored seen
+  overdue Sure seen apart = stored seen
 
   quiet : at + span ≤ rule.timing.heard.answered_at + 1250 → at + span ≤ later rule.timing.heard.answered_at (quiet_of rule.timing.role)
   quiet short = subst (λ r. at + span ≤ later rule.timing.heard.answered_at (quiet_of r)) (sym rule.role) (later-enough (at + span) rule.timing.heard.answered_at 1250 short rule.within)
@@ -111,7 +114,7 @@ likely-is _ _ t likely = absurd (cc)
 
 is-asked : (times : Times) (led : ℕ) (s : SpokeAt) (long : ℕ) (t : Timing) → asked_within long t ≡ true → (s.spoke.came ≡ [] → ⊥) → t.led_at ≤ led → s.by ≤ t.heard.since → long + times.oldest ≤ times.receiver_waits → IsSoon times led s
 is-asked times led s long t asked some before by waits =
-    let short = at-most _ _ (second-is (not t.heard.has_waited) (nat_le (t.heard.since - t.led_at) long) (second-is (nat_lt 0 t.heard.count) _ asked)) in
+    let short = at-most _ _ (second-is (nat_eq t.heard.waits 0) (nat_le (t.heard.since - t.led_at) long) (second-is (nat_lt 0 t.heard.count) _ asked)) in
     record { some = some; soon = omega (arith, short, by, before, waits) }
 
 is-soon : (times : Times) (led : ℕ) (s : SpokeAt) → CopiesSoon times led s ⊎ CopiesLikely times led s → IsSoon times led s
@@ -134,7 +137,7 @@ is-counted : (more dropped : ℕ) (s next : SpokeAt) → CountsByRule more dropp
 is-counted more dropped s next counts =
     let c = counts.purge in
     let t = counts.timing in
-    let is = both-are c.has_brought (nat_eq c.owed 0) (both-are (counts_answers t.role t.sent.kind) (c.has_brought && nat_eq c.owed 0) counts.answered).1 in
+    let is = both-are (is_whole c.heed t) (nat_eq c.owed 0) counts.answered in
     record { acked = counts.acked; other = counts.other; each = enough-dropped more (t.out.copies - 1) c.owed dropped (none-owed c.owed is.1) counts.copies counts.counted }
 
 -- ---- A sender that goes by the rule
