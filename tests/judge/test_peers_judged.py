@@ -79,6 +79,18 @@ def test_waits_for_a_late_start():
     assert status == 0, "status %d" % status
 
 
+@sentence("judge: a sender that pauses in each block conforms")
+def test_waits_within_a_frame():
+    """A frame that stands still for half a second is one frame all the same. A machine that stands
+    still for as long may make it two, and then it is tried again."""
+    for _ in range(3):
+        command = PEER + ' sender "pauses in each block"'
+        status, found = judged("sender", command, "--only", "plain")
+        if status == 0 and found["plain"]["finding"] == "conforms":
+            return
+    raise AssertionError(told(found["plain"]))
+
+
 @sentence("judge: an ACK that is taken back is told")
 def test_tells_that_an_ack_is_taken_back():
     """Who acknowledges what did not come, and cancels behind it, is said to do so."""

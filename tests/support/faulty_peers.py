@@ -46,6 +46,9 @@ WITHIN = 0.1
 LATE = 8
 # Seconds after which "takes its ACK back" does so, where the end block comes after 4.
 SOON = 1
+# Seconds for which "pauses in each block" does so. A delivery is whole after 0.3 seconds without a
+# byte, and after one in the midst of a frame.
+PAUSE = 0.5
 # What U-Boot says where it gives up.
 ABORT = 4 * CANCEL[:1] + 4 * b"\b"
 # After so many deliveries without progress it gives up.
@@ -415,13 +418,22 @@ class Sender:
             if frame[0] != EOT:
                 self.frames[self.place] = block(frame[1] + 1, frame[3:-2])
 
+    def writes(self, frame):
+        """Writes a frame. To pause in it is no fault."""
+        if self.has("pauses in each block") and len(frame) > 1:
+            half = len(frame) // 2
+            say(frame[:half])
+            time.sleep(PAUSE)
+            frame = frame[half:]
+        say(frame)
+
     def run(self):
         # One that needs no C goes on behind the ACK, also where the C has come meanwhile.
         most = 1 if self.has("needs no C behind block 0") else 4096
         while not self.is_over:
             is_again = self.retries and self.has("never repeats")
             if self.is_sent and not is_again:
-                say(self.frames[self.place])
+                self.writes(self.frames[self.place])
             data = heard(QUIET, most)
             if self.has("answers each C") and self.place == 0 and data == bytes((START, START)):
                 say(self.frames[0])

@@ -1,5 +1,9 @@
 -- What passes on the line to a peer: what came, what of it is said, and what was written.
 use Rattle.std.specs.Prelude.{ℕ, Bool, true, false, List, [], ◌∷◌, ◌++◌, Option, Some, None}
+use Rattle.std.specs.Prelude.{Result, Ok, Err}
+use Rattle.ym_frame.specs.Frame.{is_cut, verdict_of}
+use Rattle.ym_frame.specs.declared.frame.Broken.{Broken}
+use Rattle.ym_frame.specs.declared.frame.Item.{Item}
 use Rattle.ym_judge.specs.AnswerBytes.{answers_in}
 use Rattle.ym_judge.specs.declared.twist.Twist.{Twist}
 use Rattle.ym_judge.specs.declared.twist.Twist.TheVariants as twist
@@ -13,6 +17,16 @@ use Rattle.ym_port.specs.Wire.{Tape, after_write}
 abbrev pub said_in : Ear → List ℕ → List ℕ
 said_in Answers bytes = answers_in 0 bytes
 said_in Frames bytes = bytes
+
+-- whether more bytes may make these a frame
+abbrev pub is_begun : Result (Item × ℕ) Broken → Bool
+is_begun (Ok found) = false
+is_begun (Err broken) = is_cut broken.why
+
+-- whether these bytes are the front of a frame that is listened for
+abbrev pub is_within : Ear → List ℕ → Bool
+is_within Answers bytes = false
+is_within Frames bytes = is_begun (verdict_of bytes)
 
 -- the bytes that a read brings
 abbrev pub brought : Seen → List ℕ

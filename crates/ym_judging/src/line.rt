@@ -1,7 +1,7 @@
 //! The line to a peer that is tried.
 
 ghost use Rattle.std.specs.Prelude.{◌≡◌, ◌++◌, [], IfOk, OnOk, false, not};
-ghost use Rattle.ym_judging.specs.Listening.{brought, said_in, written_on};
+ghost use Rattle.ym_judging.specs.Listening.{brought, is_within, said_in, written_on};
 ghost use Rattle.ym_judging.specs.declared.line.TheConstants.{PIECE};
 ghost use Rattle.ym_link.specs.Port.{read_gives};
 ghost use Rattle.ym_port.specs.Wire.{Tape, after_read};
@@ -9,6 +9,7 @@ ghost use Rattle.ym_port.specs.Wire.{Tape, after_read};
 use crate::manner::Manner;
 use crate::turn::{Heard, Turn};
 use std::alloc::{AllocError, Global};
+use ym_frame::{Broken, Why, whole_at};
 use ym_judge::answer_bytes;
 use ym_link::{Got, PortFault};
 use ym_port::Wire;
@@ -31,6 +32,10 @@ pub(crate) const ENDED_MS: u64 = 12_000;
 
 /// After so many milliseconds without a byte nothing more comes.
 const SETTLE_MS: u64 = 300;
+
+/// The same in the midst of a frame, where a receiver waits for each byte as long. A machine that
+/// has much to do may stand still there.
+const WITHIN_MS: u64 = 1_000;
 
 /// How many milliseconds late something is written.
 const LATE_MS: u64 = 4_000;
@@ -145,10 +150,25 @@ impl<'w, W: Wire> Line<'w, W> {
         }
     }
 
+    /// Whether these bytes are the front of a frame that is listened for.
+    fn is_within(&self, bytes: &[u8]) -> bool
+        ensures { result ≡ is_within self.now.ear bytes.now }
+    {
+        match (self.ear, whole_at(bytes)) {
+            (Ear::Frames, Err(Broken { why: Why::Cut, .. })) => true,
+            _ => false,
+        }
+    }
+
     /// Takes pieces until one is missing for a while.
     fn take_pieces(&mut self, bytes: &mut Vec<u8>) -> Result<(), AllocError> {
         for _done in 0..MOST_READS {
-            if !self.take_piece(SETTLE_MS, bytes)? {
+            let patience = if self.is_within(bytes.as_slice()) {
+                WITHIN_MS
+            } else {
+                SETTLE_MS
+            };
+            if !self.take_piece(patience, bytes)? {
                 break;
             }
         }
