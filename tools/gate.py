@@ -19,9 +19,10 @@ skipped; where one fails, all that pytest said is told, and the end of it once m
 Where pytest is not installed all of them are skipped, and the last lines but the gate's own say so.
 
 What the gate does is told in a line each as it comes. All that it says stands in out/gate.log and
-is written last, so that the last line is its verdict. Where anything else fails the gate is
-stopped. Once all has passed, the program lies where a build leaves it, and `make install` takes it.
-All crates are green then, and `make check` goes on from there.
+is written last, so that the last line is its verdict. Where tests of the program fail, those of all
+other folders are made before the gate is stopped, so that one run tells of each. Where anything
+else fails it is stopped at once. Once all has passed, the program lies where a build leaves it, and
+`make install` takes it. All crates are green then, and `make check` goes on from there.
 
 usage: gate.py
 The environment variable INSTALL=install has the packages installed that the tests need, as root.
@@ -370,29 +371,28 @@ class Row:
 
     def __init__(self, names, gate, library, environment):
         self.names, self.gate, self.library, self.environment = names, gate, library, environment
-        self.failed = None
+        self.failed = []
         self.thread = threading.Thread(target=self.run, daemon=True)
         self.thread.start()
 
     def run(self):
         try:
-            self.failed = self.failing()
+            for name in self.names:
+                self.make(name)
         except Exception as fault:  # tests that were not made have not passed
             tell("%s: %r" % (", ".join(self.names), fault))
-            self.failed = "a row of tests"
+            self.failed.append("a row of tests")
 
-    def failing(self):
-        """Makes the tests. Gives the first folder that fails, if one does."""
-        for name in self.names:
-            if name in TESTS_OF_LIBRARY and not self.library.has_ended_well():
-                return None
-            if name in TESTS_OF_CASES and not are_there(self.gate, *CASES.values()):
-                return None
-            if self.gate.is_given_up:
-                return None
-            if made(name, self.environment, marked=MARKED.get(name, "")):
-                return "tests/" + name
-        return None
+    def make(self, name):
+        """Makes the tests of a folder, where what they need comes."""
+        if name in TESTS_OF_LIBRARY and not self.library.has_ended_well():
+            return
+        if name in TESTS_OF_CASES and not are_there(self.gate, *CASES.values()):
+            return
+        if self.gate.is_given_up:
+            return
+        if made(name, self.environment, marked=MARKED.get(name, "")):
+            self.failed.append("tests/" + name)
 
 
 def built(name):
@@ -428,20 +428,20 @@ def are_what_was_tried():
 
 
 def tried(gate, before, library):
-    """The tests of the program. Gives the name of the first that fails."""
+    """The tests of the program, all of them. Gives the names of those that fail."""
     if not are_there(gate, PROGRAM):
-        return None
+        return []
     environment = {**os.environ, **{it: place(name) for it, name in PROGRAMS.items()}}
     before.thread.join()
     rows = [Row(names, gate, library, environment) for names in ROWS]
-    while any(row.thread.is_alive() for row in rows) and not any(row.failed for row in rows):
-        time.sleep(0.2)
-    return next((row.failed for row in rows if row.failed), None)
+    for row in rows:
+        row.thread.join()
+    return [name for row in rows for name in row.failed]
 
 
 def judged(gate, beside):
     """Has the program proved, begins the gate and all that goes on beside it, and waits for its
-    end. Gives the gate's status, or the name of what failed."""
+    end. Gives the gate's status, or the names of what failed."""
     installed = Beside("packages", packages, gate)
     made_library = lambda: library_and_page(installed, gate)
     library = Beside("the library for C and the page", made_library, gate)
@@ -452,19 +452,18 @@ def judged(gate, beside):
         "tests/web": lambda: beside_library("web", library, gate),
     }
     beside += [installed, library, *(Beside(name, work, gate) for name, work in works.items())]
-    failed = None
+    failed = []
     if program(gate):
         gate.begin()
         failed = tried(gate, installed, library)
     elif not gate.is_given_up:
-        failed = "the proof of the program"
+        failed = ["the proof of the program"]
         gate.give_up()
-    for it in beside:
-        failed = failed or (None if it.has_ended_well() else it.name)
+    failed += [it.name for it in beside if not it.has_ended_well()]
     if COUNTS or WITHOUT_PYTEST:
         tell("the tests of all folders: %s" % in_all())
     if not failed and not gate.ended() and not are_what_was_tried():
-        failed = "the comparison of what was tried with what the gate built"
+        failed = ["the comparison of what was tried with what the gate built"]
     return failed or gate.child.returncode
 
 
@@ -480,12 +479,13 @@ def main():
         result = 130
     finally:
         stop_all(gate, beside)
-    if isinstance(result, str):
+    if isinstance(result, list):
         if gate.is_over:
             gate.ended()
-        for line in FAILED.get(result, "").splitlines()[-LAST_LINES:]:
-            tell(line)
-        tell("%s failed" % result)
+        for name in result:
+            for line in FAILED.get(name, "").splitlines()[-LAST_LINES:]:
+                tell(line)
+        tell("%s failed" % ", ".join(result))
         return 1
     if not result:
         proved.note(PROGRAM)

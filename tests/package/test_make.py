@@ -423,10 +423,11 @@ def test_gate_without_a_program():
         assert it.called().count("ci") == 1, "its calls"
 
 
-def gate_where(name, failed, slow):
-    """The gate is stopped, with all that it started, and the last line is no verdict."""
+def gate_where(names, failed, slow):
+    """The gate is stopped, with all that it started, and the last line is no verdict. Gives what
+    was called."""
     with tree_with_gate() as it:
-        it.mark("fails", name)
+        it.mark("fails", names)
         it.mark(slow)
         status, out, _ = it.run("tools/gate.py")
         last = ["a line that is not the one wanted", "1 failed, 2 passed in 0.01s"]
@@ -435,11 +436,14 @@ def gate_where(name, failed, slow):
             [*last, failed + " failed"],
         ), "its status and its last lines"
         it.wants_ended()
+        return it.called()
 
 
-@sentence("the gate where a test fails")
-def test_gate_behind_a_test_that_fails():
-    gate_where("line", "tests/line", "late")
+@sentence("the gate where tests of two folders fail")
+def test_gate_behind_tests_that_fail():
+    """Those of all others are made before it is stopped, and both are told."""
+    called = gate_where("line\njudge", "tests/line, tests/judge", "late")
+    assert {call.split()[0] for call in called}.issuperset(TESTS), "its tests"
 
 
 @sentence("the gate where pytest is not installed")
