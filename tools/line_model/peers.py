@@ -127,7 +127,8 @@ def rb_sector(line, ask, wait):
 
 
 def rb(start=0):
-    """lrzsz's receiver: ten seconds for each block, four once it has asked again.
+    """lrzsz's receiver: ten seconds for block 0, thirteen for each block of a number that 128
+    divides, counted from 0, five for the others, and four once it has asked again.
 
     Before it asks it drops what comes until a second was quiet. So it does behind an EOT's ACK.
     """
@@ -153,7 +154,8 @@ def rb(start=0):
         yield Write(bytes([START]))
         data, count = b"", 0
         while True:
-            item = yield from rb_sector(line, NAK if count else START, 10 * SECOND)
+            wait = 5 if count % 128 else 13
+            item = yield from rb_sector(line, NAK if count else START, wait * SECOND)
             if not item:
                 return "failed", files
             if item[0] == "eot":
