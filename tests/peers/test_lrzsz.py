@@ -9,11 +9,13 @@ import subprocess
 import tempfile
 import time
 
+import pytest
 from support.batches import ASKED, BATCHES, EMPTY_FIRST, SINGLE
 from support.cases import case, cases, sentence
 from support.claims import Claim, claim_of_receive, claim_of_send, wants_true
 from support.frames import block
 from support.lrzsz import beside_lrzsz
+from support.one_end import relayed
 from support.program import (
     LIMIT,
     connected,
@@ -24,6 +26,7 @@ from support.program import (
     wants_stored,
     write_files,
 )
+from support.relay import Clean
 from support.serial_line import Apart, Counted, SerialLine
 
 
@@ -80,6 +83,38 @@ def test_to_rb(flags=()):
             end, _ = listener.accept()
             with end:
                 ended, status = beside_lrzsz(["rb"], there, end, send)
+        wants_status_0("rb", status, ended)
+        ended.wants(0, "sender done %d finished\n" % len(batch))
+        wants_stored(there, batch)
+
+
+class LosesTheFirstAnswer(Clean):
+    """A line that loses what is said behind the first block 0, until that comes again."""
+
+    def __init__(self):
+        self.frames = 0
+
+    def there(self, frame):
+        self.frames += 1
+        return frame
+
+    def back(self, reply):
+        return b"" if self.frames == 1 else reply
+
+
+@pytest.mark.slow
+@sentence("a file to rb whose answer to block 0 is lost")
+def test_to_rb_that_says_no_c():
+    """`rb` says ACK to a block 0 that comes again, and no C. Then it asks by NAK, as for a block."""
+    with folders() as (here, there), socket.create_server(("127.0.0.1", 0)) as listener:
+        batch = files()[:4]
+        paths = write_files(here, batch)
+        listener.settimeout(LIMIT)
+        with relayed(listener.getsockname()[1], LosesTheFirstAnswer()) as port:
+            with running("send", "--port", port, *paths) as send:
+                end, _ = listener.accept()
+                with end:
+                    ended, status = beside_lrzsz(["rb"], there, end, send)
         wants_status_0("rb", status, ended)
         ended.wants(0, "sender done %d finished\n" % len(batch))
         wants_stored(there, batch)

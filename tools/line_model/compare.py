@@ -51,7 +51,7 @@ class Run:
     def hears(self):
         for byte in self.some_bytes():
             said = self.timing.byte(byte, self.written, self.now)
-            self.row("byte", byte, len(said))
+            self.row("byte", byte, len(said) if said[-1:] in (b"", bytes([byte])) else 3)
 
     def waits(self):
         kind = self.chance.randrange(2)

@@ -7,6 +7,8 @@ from ends import ACK, CAN, CONTROLS, NAK, START
 WITHIN_MS = 1_000
 MOMENT, BRIEF, TOGETHER, RESTED = 100, 25, 10, 500
 DOUBTS = ("doubted", "dropped")
+# block 0 of a file with bytes, and of one without
+OPENINGS = ("opening", "empty")
 STALE_ASKS = 10
 OTHERS = 4
 
@@ -97,14 +99,14 @@ class Hold:
         self.is_held, self.at, self.first_ack = False, 0, "counts"
         self.asks_left, self.asked_at = 0, 0
 
-    def wrote(self, is_opening, is_repeat, is_doubted, now):
-        self.is_held = False
+    def wrote(self, kind, is_repeat, is_doubted, now):
+        self.is_held = kind == "end" and is_repeat and self.is_held
         stays = DOUBTS if is_repeat else ("brief", "rested")
         if is_doubted and not is_repeat:
             self.first_ack = "doubted"
         elif self.first_ack not in stays:
             self.first_ack = "counts"
-        self.asks_left = STALE_ASKS if is_opening and not is_repeat else 0
+        self.asks_left = STALE_ASKS if kind in OPENINGS and not is_repeat else 0
         self.asked_at = now
 
     def ack(self, now):

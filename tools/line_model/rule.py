@@ -6,9 +6,9 @@ milliseconds.
 
 from dataclasses import dataclass, replace
 
-from ends import ACK, CAN, CANCEL, CONTROLS, NAK, WITHIN
+from ends import ACK, CAN, CANCEL, CONTROLS, NAK, START, WITHIN
 from line import MS, Read, Write
-from replies import MOMENT, WITHIN_MS, Ear, Hold, Sent
+from replies import MOMENT, OPENINGS, WITHIN_MS, Ear, Hold, Sent
 
 FIRST = {"sender": 10_000, "receiver": 3_000}
 LONGEST = 60_000
@@ -25,8 +25,6 @@ FULL = 2_048
 HALVINGS = 4
 PATIENCE = 2_500
 SHAKEN = 2
-# block 0 of a file with bytes, and of one without
-OPENINGS = ("opening", "empty")
 
 
 @dataclass
@@ -116,6 +114,12 @@ class Timing:
         else:
             self.slowest, self.trust = took, "sure"
 
+    def last_sample(self, took):
+        if self.trust == "doubtful" and took < self.slowest:
+            self.slowest -= (self.slowest - took) // 4
+        else:
+            self.sure(took)
+
     def wait(self):
         first = FIRST[self.role]
         return first if self.trust == "unknown" else min(LONGEST, max(first, self.bound()))
@@ -158,6 +162,16 @@ class Timing:
         self.hold.is_held = False
         return "quiet"
 
+    def is_start(self, byte):
+        """Whether it asks for the data behind a block 0 that came twice."""
+        is_acked = 0 < self.heard.answers and 1 < self.out.copies
+        return byte == NAK and is_acked and self.sent.kind in OPENINGS
+
+    def controlled(self, byte, now):
+        if self.is_start(byte):
+            return bytes([START])
+        return self.hold.control(self.sent.kind, byte, self.heard.count == 0, now)
+
     def byte(self, byte, written, now):
         """What of a byte that came is to be heard."""
         if self.role == "receiver":
@@ -169,7 +183,7 @@ class Timing:
             return bytes([byte])
         if not self.ear.listen(byte, written, now):
             return b""
-        said = self.hold.control(self.sent.kind, byte, self.heard.count == 0, now)
+        said = self.controlled(byte, now)
         if said:
             self.heard.take_reply(byte, now)
         return said
@@ -287,7 +301,7 @@ class Timing:
             return
         vain = clearing.need in ("late", "several") and not clearing.has_brought
         if self.role == "sender" and vain:
-            self.sure(self.took(self.out.last_at))
+            self.last_sample(self.took(self.out.last_at))
         elif self.out.owed in ("likely", "several"):
             self.doubtful(self.took(self.out.first_at))
         else:
@@ -364,7 +378,7 @@ class Timing:
         self.learn(clearing, taken)
         if clearing.need in ("late", "several"):
             self.vain = 0 if clearing.has_brought else min(HALVINGS, self.vain + 1)
-        self.hold.wrote(following.kind in OPENINGS, repeat, doubted, now)
+        self.hold.wrote(following.kind, repeat, doubted, now)
         if self.role == "receiver" and taken:
             self.front = (self.heard.first, self.heard.second)
         self.led_at = self.heard.last if self.heard.count else now

@@ -45,6 +45,7 @@ fn heard_of(say: Say) -> u64 {
         Say::Nothing => 0,
         Say::Byte => 1,
         Say::AckAndByte => 2,
+        Say::Start => 3,
     }
 }
 

@@ -37,6 +37,7 @@ module _ (w : ℕ) where
   takes-waits say.Nothing byte now t is = is
   takes-waits say.Byte byte now t is = is
   takes-waits say.AckAndByte byte now t is = is
+  takes-waits say.Start byte now t is = is
 
   by-waits : (r : Role) (byte : ℕ) (written : List ℕ) (now : ℕ) (t : Timing) → Waits t → Waits (after_by r byte written now t)
   by-waits Sender byte written now t is =

@@ -5,6 +5,7 @@
 -- peer cancels is none.
 use Rattle.std.specs.Prelude.{ℕ, ◌-◌, nat_eq, nat_lt, nat_le, ◌&&◌, ◌||◌, not, Bool, true, false}
 use Rattle.std.specs.Prelude.{if◌then◌else◌}
+use Rattle.ym_heard.specs.Sent.{ends, opens}
 use Rattle.ym_heard.specs.Times.{later}
 use Rattle.ym_heard.specs.declared.hold.Hold.{Hold}
 use Rattle.ym_heard.specs.declared.hold.Said.{Said}
@@ -41,13 +42,14 @@ is_doubted first_ack.Doubted = true
 is_doubted first_ack.Dropped = true
 is_doubted _ = false
 
--- behind a new block 0 some C are passed over
-abbrev pub wrote : Bool → Bool → Bool → ℕ → Hold → Hold
-wrote is_opening is_repeat is_doubted now h = record h {
-  is_held = false;
+-- Behind a new block 0 some C are passed over. An ACK of the end block that is held stays where
+-- that block is written again: it came behind the ask for that, which had crossed the block.
+abbrev pub wrote : Kind → Bool → Bool → ℕ → Hold → Hold
+wrote k is_repeat is_doubted now h = record h {
+  is_held = ends k && is_repeat && h.is_held;
   first_ack =
       if is_doubted && not is_repeat then first_ack.Doubted else kept is_repeat h.first_ack;
-  asks_left = if is_opening && not is_repeat then STALE_ASKS else 0;
+  asks_left = if opens k && not is_repeat then STALE_ASKS else 0;
   asked_at = now;
 }
 
@@ -127,10 +129,6 @@ at_moment is_end byte now h =
     else (if passes is_end byte h then holding is_end h.at h.first_ack say.Nothing h
     else holding false h.at h.first_ack say.Byte h)
 
-abbrev pub is_end : Kind → Bool
-is_end kind.End = true
-is_end _ = false
-
 -- the end block, or a block 1 whose ACK may be that of a copy of block 0
 abbrev pub has_moment : Kind → Hold → Bool
 has_moment k h = by k h.first_ack
@@ -147,7 +145,7 @@ is_stale byte is_first now h =
 
 abbrev pub other : Kind → ℕ → ℕ → Hold → Said
 other k byte now h =
-    if has_moment k h then at_moment (is_end k) byte now h else record { hold = h; say = say.Byte }
+    if has_moment k h then at_moment (ends k) byte now h else record { hold = h; say = say.Byte }
 
 abbrev pub by_kind : Kind → ℕ → ℕ → Hold → Said
 by_kind kind.Eot byte now h = at_eot byte now h

@@ -1,6 +1,6 @@
 -- What an end wrote last, and what it was: a frame's number alone does not tell block 0 of a file
 -- from its data block 256 (this profile).
-use Rattle.std.specs.Prelude.{ℕ, nat_eq, nat_le, ◌==◌, ◌&&◌, Bool, List, drop, length}
+use Rattle.std.specs.Prelude.{ℕ, nat_eq, nat_le, ◌==◌, ◌&&◌, Bool, true, false, List, drop, length}
 use Rattle.std.specs.Prelude.{slice_index}
 use Rattle.std.specs.Prelude.{if◌then◌else◌}
 use Rattle.std.specs.List.{after_first}
@@ -8,6 +8,17 @@ use Rattle.ym_heard.specs.declared.sent.Kind.{Kind}
 use Rattle.ym_heard.specs.declared.sent.Kind.TheVariants.{Nothing, Opening, Empty, Data, Eot, End}
 use Rattle.ym_heard.specs.declared.sent.Kind.TheVariants.{Short}
 use Rattle.ym_heard.specs.declared.sent.Sent.{Sent}
+
+-- block 0 of a file
+abbrev pub opens : Kind → Bool
+opens Opening = true
+opens Empty = true
+opens _ = false
+
+-- the block that ends the batch
+abbrev pub ends : Kind → Bool
+ends End = true
+ends _ = false
 
 abbrev pub nothing : Sent
 nothing = record { length = 0; first = 0; second = 0; kind = Nothing }

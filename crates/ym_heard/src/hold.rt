@@ -4,6 +4,7 @@
 
 ghost use Rattle.std.specs.Prelude.{◌≡◌, false};
 ghost use Rattle.ym_heard.specs.Hold as table;
+ghost use Rattle.ym_heard.specs.declared.sent.Kind.{Kind};
 
 use crate::ear::{ACK, CAN, NAK, START};
 use crate::limits::{BRIEF, MOMENT, RESTED, STALE_ASKS, TOGETHER, WITHIN};
@@ -58,16 +59,6 @@ fn is_noise(byte: u8) -> bool
     byte != ACK && byte != NAK && byte != START && byte != CAN
 }
 
-/// Whether it is the block that ends the batch.
-fn is_end(kind: Kind) -> bool
-    ensures { result ≡ table.is_end kind }
-{
-    match kind {
-        Kind::End => true,
-        _ => false,
-    }
-}
-
 /// What a sender holds back.
 #[derive(Clone, Copy)]
 pub struct Hold {
@@ -93,6 +84,8 @@ pub enum Say {
     Byte,
     /// An ACK that came before, and the byte.
     AckAndByte,
+    /// C in the byte's place.
+    Start,
 }
 
 /// What is held behind a byte, and what is to be heard of it.
@@ -119,9 +112,10 @@ impl Hold {
     }
 
     /// What was written may be a new block 0, behind which C are passed over, or what has a first
-    /// ACK that may be that of a copy of the frame before; a repeat leaves the latter as it is.
-    pub fn wrote(self, is_opening: bool, is_repeat: bool, is_doubted: bool, now: u64) -> Hold
-        ensures { result ≡ table.wrote is_opening is_repeat is_doubted now self }
+    /// ACK that may be that of a copy of the frame before; a repeat leaves the latter as it is. It
+    /// leaves the end block's ACK, too: that came behind the ask for the repeat.
+    pub fn wrote(self, kind: Kind, is_repeat: bool, is_doubted: bool, now: u64) -> Hold
+        ensures { result ≡ table.wrote kind is_repeat is_doubted now self }
     {
         let first_ack = if is_doubted && !is_repeat {
             FirstAck::Doubted
@@ -129,10 +123,10 @@ impl Hold {
             self.first_ack.kept(is_repeat)
         };
         Hold {
-            is_held: false,
+            is_held: kind.ends() && is_repeat && self.is_held,
             at: self.at,
             first_ack,
-            asks_left: if is_opening && !is_repeat {
+            asks_left: if kind.opens() && !is_repeat {
                 STALE_ASKS
             } else {
                 0
@@ -327,7 +321,7 @@ impl Hold {
         }
         match kind {
             Kind::Eot => self.at_eot(byte, now),
-            kind if self.has_moment(kind) => self.at_moment(is_end(kind), byte, now),
+            kind if self.has_moment(kind) => self.at_moment(kind.ends(), byte, now),
             _ => Said {
                 hold: self,
                 say: Say::Byte,
@@ -348,10 +342,11 @@ impl Hold {
         }
     }
 
-    /// The same as `wrote` in place, behind a write that neither opens a file nor is doubted.
+    /// The same as `wrote` in place, behind a write that is not doubted, and neither opens a file
+    /// nor ends the batch.
     #[inline(always)]
     pub fn led(&mut self, is_repeat: bool, now: u64)
-        ensures { self.new ≡ table.wrote false is_repeat false now self.old }
+        ensures { self.new ≡ table.wrote Kind.Data is_repeat false now self.old }
     {
         self.is_held = false;
         self.first_ack = self.first_ack.kept(is_repeat);

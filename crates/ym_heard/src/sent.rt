@@ -22,6 +22,28 @@ pub enum Kind {
     Short,
 }
 
+impl Kind {
+    /// Whether it is block 0 of a file.
+    pub fn opens(self) -> bool
+        ensures { result ≡ table.opens self }
+    {
+        match self {
+            Kind::Opening | Kind::Empty => true,
+            _ => false,
+        }
+    }
+
+    /// Whether it is the block that ends the batch.
+    pub fn ends(self) -> bool
+        ensures { result ≡ table.ends self }
+    {
+        match self {
+            Kind::End => true,
+            _ => false,
+        }
+    }
+}
+
 /// What tells one frame of a batch from the next one.
 #[derive(Clone, Copy)]
 pub struct Sent {

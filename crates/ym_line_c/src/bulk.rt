@@ -5,7 +5,7 @@ ghost use Rattle.ym_line_c.specs.Bulk.{after_dropping, cleared_by};
 ghost use Rattle.ym_timing.specs.ByteRows.{after_bytes, bytes_of, heard_of};
 ghost use Rattle.ym_timing.specs.declared.role.Role.{Role};
 
-use ym_heard::Say;
+use ym_heard::{START, Say};
 use ym_timing::{Purge, Role, Timing};
 
 /// The byte ACK.
@@ -29,6 +29,10 @@ fn speak(say: Say, byte: u8, heard: &mut [u8], count: usize) -> usize
             heard[count] = ACK;
             heard[count + 1] = byte;
             count + 2
+        }
+        Say::Start => {
+            heard[count] = START;
+            count + 1
         }
     }
 }

@@ -10,7 +10,7 @@ ghost use Rattle.ym_port.specs.TimedPort.{cancel};
 ghost use Rattle.ym_port.specs.declared.line.TheConstants.{PIECE};
 
 use crate::written::Written;
-use ym_heard::{Clock, Echo, Kind, Say, cancels};
+use ym_heard::{Clock, Echo, Kind, START, Say, cancels};
 use ym_timing::{Expected, Purge, Role, Timing, Vain};
 
 /// The byte ACK.
@@ -381,6 +381,10 @@ fn put(said: Say, byte: u8, buf: &mut [u8], count: usize) -> usize
             buf[count] = ACK;
             buf[count + 1] = byte;
             count + 2
+        }
+        Say::Start => {
+            buf[count] = START;
+            count + 1
         }
     }
 }

@@ -53,7 +53,7 @@ led is_repeat n now t = record t {
   led_at = t.heard.last;
   heard = new_arrivals;
   ear = ear.wrote t.ear;
-  hold = hold.wrote false is_repeat false now t.hold;
+  hold = hold.wrote kind.Data is_repeat false now t.hold;
   echoed = 0;
 }
 

@@ -13,6 +13,7 @@ abbrev pub bytes_of : Say → ℕ → List ℕ
 bytes_of say.Nothing byte = []
 bytes_of say.Byte byte = byte ∷ []
 bytes_of say.AckAndByte byte = 0x06 ∷ byte ∷ []
+bytes_of say.Start byte = 0x43 ∷ []
 
 -- what is heard of bytes that came at this moment, where this was written last
 abbrev pub heard_of : List ℕ → List ℕ → ℕ → Timing → List ℕ

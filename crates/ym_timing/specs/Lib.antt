@@ -2,6 +2,7 @@ pub mod ByteRows
 pub mod Clears
 pub mod Arrivals
 pub mod AtOnce
+pub mod CrossedExamples
 pub mod EmptyExamples
 pub mod Out
 pub mod Pace

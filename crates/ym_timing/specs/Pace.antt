@@ -43,6 +43,17 @@ sure took p = by p.trust
     by Doubtful = taken_as took Sure
     by Unknown = taken_as took Sure
 
+-- One behind which no other came is that of the last write, or that of the first, where the peer
+-- never saw the others. So a greater doubtful one falls by a quarter, and stays doubtful.
+abbrev pub last_sample : ℕ → Pace → Pace
+last_sample took p = by p.trust
+  where
+    by : Trust → Pace
+    by Doubtful = if nat_lt took p.slowest
+        then taken_as (p.slowest - (p.slowest - took) / 4) Doubtful else taken_as took Sure
+    by Sure = sure took p
+    by Unknown = sure took p
+
 abbrev pub first_wait : Role → ℕ
 first_wait Sender = FIRST_REPLY
 first_wait Receiver = FIRST_FRAME

@@ -97,13 +97,22 @@ abbrev pub takes : Say → ℕ → ℕ → Timing → Timing
 takes say.Nothing byte now t = t
 takes say.Byte byte now t = record t { heard = take_reply byte now t.heard }
 takes say.AckAndByte byte now t = record t { heard = take_reply byte now t.heard }
+takes say.Start byte now t = record t { heard = take_reply byte now t.heard }
 
 abbrev pub listened_to : ℕ → List ℕ → ℕ → Timing → Listened
 listened_to byte frame now t = listen byte frame now t.ear
 
+-- NAK behind the ACK of a block 0 that was written again asks for its data, as C does: rb says no C
+-- where block 0 comes twice. Behind one that was written once it is of a receiver of XMODEM.
+abbrev pub is_start : ℕ → Timing → Bool
+is_start byte t =
+    nat_eq byte 0x15 && nat_lt 0 t.heard.answers && nat_lt 1 t.out.copies && sent.opens t.sent.kind
+
 -- what of a byte that its ear heard a sender says
 abbrev pub controlled : ℕ → ℕ → Timing → Said
-controlled byte now t = control t.sent.kind byte (nat_eq t.heard.count 0) now t.hold
+controlled byte now t =
+    if is_start byte t then record { hold = t.hold; say = say.Start }
+    else control t.sent.kind byte (nat_eq t.heard.count 0) now t.hold
 
 abbrev pub reply_said : ℕ → List ℕ → ℕ → Timing → Say
 reply_said byte frame now t =

@@ -10,8 +10,8 @@ use Rattle.ym_heard.specs.Ear as ear
 use Rattle.ym_timing.specs.Arrivals.{new_arrivals}
 use Rattle.ym_heard.specs.Hold as hold
 use Rattle.ym_timing.specs.Out.{one, late, again, is_one}
-use Rattle.ym_timing.specs.Pace.{bound, doubtful, sure, wait}
-use Rattle.ym_heard.specs.Sent.{next, is_same}
+use Rattle.ym_timing.specs.Pace.{bound, doubtful, last_sample, sure, wait}
+use Rattle.ym_heard.specs.Sent.{next, is_same, opens}
 use Rattle.ym_heard.specs.Times.{later}
 use Rattle.ym_timing.specs.declared.purge.Purge.{Purge}
 use Rattle.ym_timing.specs.declared.purge.Need.{Need}
@@ -103,7 +103,7 @@ sample owed.Likely took t = doubtful took t.pace
 sample _ took t = if has_stored t then t.pace else sure took t.pace
 
 abbrev pub pace_of : Bool → ℕ → Timing → Pace
-pace_of is_last took t = if is_last then sure took t.pace else sample t.out.owed took t
+pace_of is_last took t = if is_last then last_sample took t.pace else sample t.out.owed took t
 
 -- it counts from the first of the writes that are out, or from the last
 abbrev pub answered_from : Bool → Timing → ℕ
@@ -164,16 +164,8 @@ late_by _ _ _ t = false
 abbrev pub is_late : Timing → Bool
 is_late t = late_by t.role t.out.owed t.pace.trust t
 
-abbrev pub opening_kind : Kind → Bool
-opening_kind kind.Opening = true
-opening_kind kind.Empty = true
-opening_kind _ = false
-
-abbrev pub is_opening : Sent → Bool
-is_opening s = opening_kind s.kind
-
 abbrev pub likely_by : Owed → Trust → Timing → Bool
-likely_by owed.One trust.Unknown t = is_opening t.sent && asked_within LIKELY t
+likely_by owed.One trust.Unknown t = opens t.sent.kind && asked_within LIKELY t
 likely_by _ _ t = false
 
 -- Nothing is known of the line, and the ask for block 0 came so soon that it most likely was
@@ -295,7 +287,7 @@ wrote_next n c now t = record {
   led_at = if nat_lt 0 t.heard.count then t.heard.last else now;
   heard = new_arrivals;
   ear = ear.wrote t.ear;
-  hold = hold.wrote (is_opening n) (is_same t.sent n)
+  hold = hold.wrote n.kind (is_same t.sent n)
       (is_doubted n (is_taken n t) (shaken_after (is_same t.sent n) c t) t) now t.hold;
   echoed = 0;
   prefix = prefix_after (is_taken n t) t;

@@ -75,6 +75,20 @@ impl Pace {
         }
     }
 
+    /// Takes an answer that came while several were awaited, where no other came behind it: that of
+    /// the last write, or that of the first, where the peer never saw the others.
+    pub fn last_sample(self, took: u64) -> Pace
+        ensures { result ≡ table.last_sample took self }
+    {
+        match self.trust {
+            Trust::Doubtful if took < self.slowest => Pace {
+                slowest: self.slowest - (self.slowest - took) / 4,
+                trust: Trust::Doubtful,
+            },
+            _ => self.sure(took),
+        }
+    }
+
     /// The same as `sure` in place.
     #[inline(always)]
     pub(crate) fn led(&mut self, took: u64)

@@ -10,7 +10,7 @@ use crate::arrivals::Arrivals;
 use crate::out::Out;
 use crate::pace::Pace;
 use crate::role::Role;
-use ym_heard::{ACK, Ear, Hold, Kind, PATIENCE, Say, Sent, WITHIN};
+use ym_heard::{ACK, Ear, Hold, Kind, NAK, PATIENCE, Said, Say, Sent, WITHIN};
 
 /// The frame that a receiver heard last.
 #[derive(Clone, Copy)]
@@ -165,6 +165,31 @@ impl Timing {
         }
     }
 
+    /// Whether this byte asks for the data behind a block 0 that was written again, and was
+    /// acknowledged. `rb` of lrzsz says no C for a block 0 that comes twice, and then NAK. Where it
+    /// was written once, NAK behind its ACK is of a receiver of XMODEM.
+    #[inline]
+    fn is_start(&self, byte: u8) -> bool
+        ensures { result ≡ table.is_start byte self.now }
+    {
+        byte == NAK && 0 < self.heard.answers && 1 < self.out.copies && self.sent.kind.opens()
+    }
+
+    /// What of a byte that its ear heard a sender says.
+    #[inline]
+    fn controlled(&self, byte: u8, now: u64) -> Said
+        ensures { result ≡ table.controlled byte now self.now }
+    {
+        if self.is_start(byte) {
+            return Said {
+                hold: self.hold,
+                say: Say::Start,
+            };
+        }
+        let is_first = self.heard.count == 0;
+        self.hold.control(self.sent.kind, byte, is_first, now)
+    }
+
     /// Takes a byte that came to a sender behind this frame.
     #[inline(always)]
     fn reply_byte(&mut self, byte: u8, frame: &[u8], now: u64) -> Say
@@ -177,12 +202,11 @@ impl Timing {
         if !listened.is_heard {
             return Say::Nothing;
         }
-        let is_first = self.heard.count == 0;
-        let said = self.hold.control(self.sent.kind, byte, is_first, now);
+        let said = self.controlled(byte, now);
         self.hold = said.hold;
         match said.say {
             Say::Nothing => {}
-            Say::Byte | Say::AckAndByte => {
+            Say::Byte | Say::AckAndByte | Say::Start => {
                 self.heard = self.heard.take_reply(byte, now);
             }
         }

@@ -93,8 +93,9 @@ impl Timing {
         ensures { result ≡ table.pace_of is_last took self.now }
     {
         match self.out.owed {
-            Owed::Likely | Owed::Several if !is_last => self.pace.doubtful(took),
-            _ if !is_last && self.has_stored() => self.pace,
+            _ if is_last => self.pace.last_sample(took),
+            Owed::Likely | Owed::Several => self.pace.doubtful(took),
+            _ if self.has_stored() => self.pace,
             _ => self.pace.sure(took),
         }
     }
@@ -175,7 +176,7 @@ impl Timing {
         ensures { result ≡ table.is_likely self.now }
     {
         match (self.out.owed, self.pace.trust) {
-            (Owed::One, Trust::Unknown) => is_opening(self.sent) && self.asked_within(LIKELY),
+            (Owed::One, Trust::Unknown) => self.sent.kind.opens() && self.asked_within(LIKELY),
             _ => false,
         }
     }
@@ -312,9 +313,7 @@ impl Timing {
             self.pace
         };
         let prefix = self.prefix_after(is_taken);
-        let hold = self
-            .hold
-            .wrote(is_opening(next), is_repeat, is_doubted, now);
+        let hold = self.hold.wrote(next.kind, is_repeat, is_doubted, now);
         self.out = self.out_after(is_taken, now);
         self.pace = pace;
         self.sent = next;
@@ -331,16 +330,6 @@ impl Timing {
         self.shaken = shaken;
         self.is_refused = is_refused;
         self.vain = vain_after(self.vain, purge);
-    }
-}
-
-/// Whether it is block 0 of a file.
-fn is_opening(next: Sent) -> bool
-    ensures { result ≡ table.is_opening next }
-{
-    match next.kind {
-        Kind::Opening | Kind::Empty => true,
-        _ => false,
     }
 }
 

@@ -2,7 +2,7 @@ use Rattle.std.proofs.Common.{◌≡◌, ◌⊎◌, ◌+◌, ◌-◌, ◌^◌, �
 use Rattle.ym_timing.specs.Clears.{answers_until, apart_until, is_whole, overdue_at, quiet_of, several_until}
 use Rattle.ym_timing.specs.Pace.{bound}
 use Rattle.ym_heard.specs.Times.{later}
-use Rattle.ym_timing.specs.Writing.{asked_within, is_opening, is_overdue, is_soon, is_unproven, late_by, likely_by, prompted_by, soon, soon_by}
+use Rattle.ym_timing.specs.Writing.{asked_within, is_overdue, is_soon, is_unproven, late_by, likely_by, prompted_by, soon, soon_by}
 use Rattle.ym_timing.specs.declared.out.Owed.{Owed}
 use Rattle.ym_timing.specs.declared.out.Owed.TheVariants as owed
 use Rattle.ym_timing.specs.declared.pace.Trust.{Trust}
@@ -109,7 +109,7 @@ soon-is Sender owed.Late t role prompted = second-is (not (is_unproven t)) (is_s
 soon-is _ _ t role prompted = absurd (cc)
 
 likely-is : (o : Owed) (trust : Trust) (t : Timing) → likely_by o trust t ≡ true → asked_within 2250 t ≡ true
-likely-is owed.One Unknown t likely = second-is (is_opening t.sent) (asked_within 2250 t) likely
+likely-is owed.One Unknown t likely = second-is _ (asked_within 2250 t) likely
 likely-is _ _ t likely = absurd (cc)
 
 is-asked : (times : Times) (led : ℕ) (s : SpokeAt) (long : ℕ) (t : Timing) → asked_within long t ≡ true → (s.spoke.came ≡ [] → ⊥) → t.led_at ≤ led → s.by ≤ t.heard.since → long + times.oldest ≤ times.receiver_waits → IsSoon times led s
