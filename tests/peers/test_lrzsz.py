@@ -92,14 +92,18 @@ class LosesTheFirstAnswer(Clean):
     """A line that loses what is said behind the first block 0, until that comes again."""
 
     def __init__(self):
-        self.frames = 0
+        self.frames = self.bad_frames = self.bad_replies = 0
+        self.most = 1
 
     def there(self, frame):
         self.frames += 1
         return frame
 
     def back(self, reply):
-        return b"" if self.frames == 1 else reply
+        if self.frames != 1:
+            return reply
+        self.bad_replies += 1
+        return b""
 
 
 @pytest.mark.slow

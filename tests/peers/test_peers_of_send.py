@@ -1,10 +1,17 @@
 """Peers of `send` that misbehave: how it ends."""
 
+import time
+
 import pytest
 from support.cases import case, cases
 from support.frames import ACK, CAN, CANCEL, END, EOT, NAK, START, block, header, mixed, short
 from support.peers import send_to
 from support.talking import JUNK, expect, expect_no_more, floods, never_stops, reset, take, talks
+
+
+# Behind a new block 0 each C within a second of the one before is passed over, and one within 1.75
+# seconds says that the block was damaged.
+STALE = 3
 
 
 # Peers of `send`
@@ -50,14 +57,36 @@ def cancels_behind_block_0(end):
     expect_no_more(end)
 
 
-def takes_all(cut, lead=b""):
-    """Takes both files, in the blocks that they are cut into, and sends this before each reply."""
+def asks_and_takes(end):
+    """Asks for block 0 while that is on its way, and says what `rb` of lrzsz says to both copies:
+    its C is in one read with the ask and behind it, and then it asks by NAK."""
+    end.sendall(bytes((START,)))
+    expect(end, header(b"a", b"3000"))
+    time.sleep(STALE)
+    end.sendall(bytes((START, ACK, START)))
+    expect(end, header(b"a", b"3000"))
+    end.sendall(bytes((ACK,)))
+    end.sendall(bytes((NAK,)))
+
+
+def takes_at_once(lead):
+    """Takes block 0 of the first file, and sends this before each reply."""
+
+    def takes(end):
+        end.sendall(lead + bytes((START,)))
+        expect(end, header(b"a", b"3000"))
+        end.sendall(lead + bytes((ACK, START)))
+
+    return takes
+
+
+def takes_all(cut, lead=b"", opens=None, last=bytes((ACK,))):
+    """Takes both files, in the blocks that they are cut into, and sends this before each reply. The
+    end block is written again where an ask stands before its ACK."""
     call = lead + bytes((ACK, START))
 
     def peer(end):
-        end.sendall(lead + bytes((START,)))
-        expect(end, header(b"a", b"3000"))
-        end.sendall(call)
+        (opens or takes_at_once(lead))(end)
         for number, body in enumerate(cut(b"x" * 3000), 1):
             expect(end, block(number, body))
             end.sendall(lead + bytes((ACK,)))
@@ -70,7 +99,9 @@ def takes_all(cut, lead=b""):
             expect(end, asked)
             end.sendall(answer)
         expect(end, END)
-        end.sendall(bytes((ACK,)))
+        end.sendall(last)
+        if last[0] != ACK:
+            expect(end, END)
         expect_no_more(end)
 
     return peer
@@ -136,6 +167,18 @@ CLOSED = ("fault: closed\n", "fault: device\n")
     case(
         "send: the peer sends a lone CAN before each reply",
         takes_all(mixed, bytes((CAN,))),
+        0,
+        "sender done 2 finished\n",
+    ),
+    case(
+        "send: the peer says no C for a block 0 that comes twice, as rb",
+        takes_all(mixed, opens=asks_and_takes),
+        0,
+        "sender done 2 finished\n",
+    ),
+    case(
+        "send: the peer asks for the end block as it comes, and leaves",
+        takes_all(mixed, last=bytes((START, ACK))),
         0,
         "sender done 2 finished\n",
     ),
