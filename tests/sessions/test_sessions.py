@@ -211,6 +211,8 @@ def short_rows(seeds):
         *stall_rows(SOCKETS, (9,), (2,), (15, 16)),
         # `rb` drops what comes just when copies do on such a line, if all go at once
         *stall_rows(("send", "rb"), (1, 6), (2,), (6, 7), is_whole=True),
+        # its asks cross what they ask for
+        *delay_rows(("send", "rb"), (3.25,), 1, True),
         *echo_rows(SOCKETS, PAIRS[1]),
         *delay_rows(TERMINALS, (0.5, 2), 0, True),
         *delay_rows(TERMINALS, (1.5,), 1, True),
