@@ -73,19 +73,25 @@ def test_from_sb(flags=(), receive_flags=()):
         wants_stored(there, batch)
 
 
-@cases(case("files to rb"), case("files to rb, --short", ("--short",)))
-def test_to_rb(flags=()):
+def wants_at_rb(batch, flags=(), line=None):
+    """`send` brings these to `rb`, over this line."""
     with folders() as (here, there), socket.create_server(("127.0.0.1", 0)) as listener:
-        batch = files()
         paths = write_files(here, batch)
         listener.settimeout(LIMIT)
-        with running("send", "--port", listener.getsockname()[1], *flags, *paths) as send:
-            end, _ = listener.accept()
-            with end:
-                ended, status = beside_lrzsz(["rb"], there, end, send)
+        listens_at = listener.getsockname()[1]
+        with relayed(listens_at, line) if line else contextlib.nullcontext(listens_at) as port:
+            with running("send", "--port", port, *flags, *paths) as send:
+                end, _ = listener.accept()
+                with end:
+                    ended, status = beside_lrzsz(["rb"], there, end, send)
         wants_status_0("rb", status, ended)
         ended.wants(0, "sender done %d finished\n" % len(batch))
         wants_stored(there, batch)
+
+
+@cases(case("files to rb"), case("files to rb, --short", ("--short",)))
+def test_to_rb(flags=()):
+    wants_at_rb(files(), flags)
 
 
 class LosesTheFirstAnswer(Clean):
@@ -110,18 +116,7 @@ class LosesTheFirstAnswer(Clean):
 @sentence("a file to rb whose answer to block 0 is lost")
 def test_to_rb_that_says_no_c():
     """`rb` says ACK to a block 0 that comes again, and no C. Then it asks by NAK, as for a block."""
-    with folders() as (here, there), socket.create_server(("127.0.0.1", 0)) as listener:
-        batch = files()[:4]
-        paths = write_files(here, batch)
-        listener.settimeout(LIMIT)
-        with relayed(listener.getsockname()[1], LosesTheFirstAnswer()) as port:
-            with running("send", "--port", port, *paths) as send:
-                end, _ = listener.accept()
-                with end:
-                    ended, status = beside_lrzsz(["rb"], there, end, send)
-        wants_status_0("rb", status, ended)
-        ended.wants(0, "sender done %d finished\n" % len(batch))
-        wants_stored(there, batch)
+    wants_at_rb(files()[:4], line=LosesTheFirstAnswer())
 
 
 @cases(
