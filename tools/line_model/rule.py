@@ -259,9 +259,9 @@ class Timing:
         else:
             if self.is_answered(clearing):
                 return 0
-            apart = frm + self.out.gap + APART
+            apart = frm + self.out.gap * max(1, clearing.owed) + APART
             late = self.out.last_at + self.bound() + self.stores_for()
-            late = apart if self.trust == "unknown" else late
+            late = frm + self.out.gap + APART if self.trust == "unknown" else late
             until = max(frm + quiet, min(apart, late))
         return min(until, clearing.end_at)
 

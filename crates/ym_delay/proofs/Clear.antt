@@ -1,5 +1,6 @@
 -- A sender's line that is let clear was quiet for a while, by the port's clock.
-use Rattle.std.proofs.Common.{◌≡◌, ◌+◌, ◌-◌, ◌^◌, ◌≤◌, ◌⊎◌, ◌&&◌, ◌||◌, inl, inr, ℕ, zero, suc, min, max, nat_le, nat_eq, Bool, true, false, List, [], ◌∷◌, length, Result, Ok, Err, refl, sym, subst, arith}
+use Rattle.std.proofs.Common.{◌≡◌, ◌+◌, ◌-◌, ◌*◌, ◌^◌, ◌≤◌, ◌⊎◌, ◌&&◌, ◌||◌, inl, inr, ℕ, zero, suc, min, max, nat_le, nat_eq, Bool, true, false, List, [], ◌∷◌, length, Result, Ok, Err, refl, sym, subst, arith}
+use Rattle.std.proofs.Math.Nat.{mul-le-mul_left}
 use Rattle.ym_link.specs.Port.{Seen, Data, Silence, End, Failed, read_gives}
 use Rattle.ym_link.specs.declared.port.PortFault.{PortFault}
 use Rattle.ym_port.specs.TimedPort.{Cleared, Dropped, clear_on, clear_step, dropped, is_clear, looked, over}
@@ -13,7 +14,6 @@ use Rattle.ym_timing.specs.Pace.{bound}
 use Rattle.ym_heard.specs.Times.{later, waited}
 use Rattle.ym_timing.specs.declared.purge.Purge.{Purge}
 use Rattle.ym_timing.specs.declared.purge.Need.TheVariants.{Several}
-use Rattle.ym_timing.specs.declared.out.Out.{Out}
 use Rattle.ym_timing.specs.declared.pace.Pace.{Pace}
 use Rattle.ym_timing.specs.declared.pace.Trust.{Trust}
 use Rattle.ym_timing.specs.declared.pace.Trust.TheVariants.{Unknown, Doubtful, Sure}
@@ -50,17 +50,17 @@ later-more : (a b wait : ℕ) → a ≤ b → later a wait ≤ later b wait
 later-more a b wait before = omega (arith, before)
 
 module _ (first t : Timing) (is : Same first t) (since from : ℕ) (before : since ≤ from) where
-  apart-more : clears.apart_until since first ≤ clears.apart_until from t
-  apart-more = subst (λ (o : Out). clears.apart_until since first ≤ later (later from o.gap) 2000) (sym is.out) (later-more _ _ 2000 (later-more since from first.out.gap before))
+  apart-more : (many : ℕ) → 1 ≤ many → clears.apart_until 1 since first ≤ clears.apart_until many from t
+  apart-more many one = let more = mul-le-mul_left first.out.gap one in rw is.out (omega (arith, before, more))
 
   due-more : (trust : Trust) → clears.overdue_at trust since first ≤ clears.overdue_at trust from t
-  due-more Unknown = apart-more
+  due-more Unknown = apart-more 1 (omega arith)
   due-more Doubtful = rw (is.role, is.out, is.pace, is.sent, is.refused) (omega arith)
   due-more Sure = rw (is.role, is.out, is.pace, is.sent, is.refused) (omega arith)
 
-  several-more : clears.several_until since first ≤ clears.several_until from t
-  several-more =
-      both-more _ _ _ _ _ _ (subst (λ r. later since (clears.quiet_of first.role) ≤ later from (clears.quiet_of r)) (sym is.role) (later-more since from (clears.quiet_of first.role) before)) apart-more
+  several-more : (many : ℕ) → 1 ≤ many → clears.several_until 1 since first ≤ clears.several_until many from t
+  several-more many one =
+      both-more _ _ _ _ _ _ (subst (λ r. later since (clears.quiet_of first.role) ≤ later from (clears.quiet_of r)) (sym is.role) (later-more since from (clears.quiet_of first.role) before)) (apart-more many one)
       (subst (λ (p : Pace). clears.overdue_at first.pace.trust since first ≤ clears.overdue_at p.trust from t) (sym is.pace) (due-more first.pace.trust))
 
 module _ (since end : ℕ) (first : Timing) where
@@ -93,7 +93,7 @@ module _ (since end : ℕ) (first : Timing) where
   -- ---- When it is clear
 
   abbrev pub Quiet : Purge → Line → Type 0
-  Quiet c l = IsOverAtOnce c l ⊎ (min (clears.several_until since first) end ≤ l.clock.at)
+  Quiet c l = IsOverAtOnce c l ⊎ (min (clears.several_until 1 since first) end ≤ l.clock.at)
 
   quiet-by : (whole until from now : ℕ) → whole ≡ min until end → from ≤ until → whole ≤ now → min from end ≤ now
   quiet-by whole until from now is long late = omega (arith, is, long, late)
@@ -105,13 +105,13 @@ module _ (since end : ℕ) (first : Timing) where
       by true cancels answered is_answered = inl (record { is = inr (inl cancels) })
       by false cancels true is_answered = inl (record { is = inr (inr is_answered) })
       by false cancels false is_answered =
-          let whole : clears.clear_at c l.timing ≡ min (clears.several_until c.from l.timing) end = rw (cancels, is.need, is_answered, is.end_is) refl in
-          inr (quiet-by _ _ _ _ whole (several-more first l.timing is.same since c.from is.from) late)
+          let whole : clears.clear_at c l.timing ≡ min (clears.several_until (max c.owed 1) c.from l.timing) end = rw (cancels, is.need, is_answered, is.end_is) refl in
+          inr (quiet-by _ _ _ _ whole (several-more first l.timing is.same since c.from is.from (max c.owed 1) (omega arith)) late)
 
   -- ---- The whole of it
 
   pub record Ends (count : ℕ) (found : Purge) (e : Cleared) : Type 0 where
-    pub is : IsOverAtOnce found e.line ⊎ ((count ≤ length e.tape.done) ⊎ (min (clears.several_until since first) end ≤ e.line.clock.at))
+    pub is : IsOverAtOnce found e.line ⊎ ((count ≤ length e.tape.done) ⊎ (min (clears.several_until 1 since first) end ≤ e.line.clock.at))
 
   abbrev Goes : ℕ → Purge → Cleared → Type 0
   Goes count found e = e.answer ≡ Ok found → Ends count found e

@@ -50,7 +50,7 @@ pub record WaitsByRule (span at next : ℕ) : Type 0 where
   pub last : at ≡ timing.out.last_at
   pub acked : at ≤ timing.heard.answered_at  -- an ACK came behind it
   pub before : timing.heard.answered_at ≤ began
-  pub clear : min (several_until timing.heard.answered_at timing) (later began LONGEST) ≤ next
+  pub clear : min (several_until 1 timing.heard.answered_at timing) (later began LONGEST) ≤ next
   pub reaches : Reaches span at timing
   pub within : at + span < 2 ^ 64
 

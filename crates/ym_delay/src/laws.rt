@@ -251,17 +251,17 @@ pub fn a_quiet_read_waited()
 {}
 
 /// The program's port lets the line clear: behind several writes of a frame a sender's line is
-/// clear, by the port's clock, when as long has passed since the last ACK as the rule says
-/// (`by_rule`), 1.25 seconds at least (`quiet`), or a minute since it began to clear. There is
-/// nothing to wait for where the line was closed, CAN CAN came, or each copy of a block had its
-/// ACK; and it gives up when it has asked the line 65,536 times.
+/// clear, by the port's clock, when as long has passed since the last ACK as the rule says where
+/// one more may come (`by_rule`), 1.25 seconds at least (`quiet`), or a minute since it began to
+/// clear. There is nothing to wait for where the line was closed, CAN CAN came, or each copy of a
+/// block had its ACK; and it gives up when it has asked the line 65,536 times.
 pub fn a_cleared_line_was_quiet()
     ensures by_rule { (bytes : List ℕ) (l : Line) (t : Tape) (c : Purge) →
         l.timing.role ≡ Sender → IsSeveral bytes l t → l.timing.heard.answered_at ≤ began l t →
         (clears_for bytes l t).answer ≡ Ok c →
         IsOverAtOnce c (clears_for bytes l t).line
         ⊎ (IsSpent t (clears_for bytes l t).tape
-        ⊎ (min (several_until l.timing.heard.answered_at l.timing) (later (began l t) 60000)
+        ⊎ (min (several_until 1 l.timing.heard.answered_at l.timing) (later (began l t) 60000)
         ≤ (clears_for bytes l t).line.clock.at)) }
     ensures quiet { (bytes : List ℕ) (l : Line) (t : Tape) (c : Purge) →
         l.timing.role ≡ Sender → IsSeveral bytes l t → l.timing.heard.answered_at ≤ began l t →

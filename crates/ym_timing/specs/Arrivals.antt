@@ -1,5 +1,5 @@
 -- What an end heard since it wrote (this profile).
-use Rattle.std.specs.Prelude.{ℕ, ◌+◌, nat_eq, nat_lt, nat_le, ◌&&◌, ◌||◌, not, Bool, true}
+use Rattle.std.specs.Prelude.{ℕ, ◌+◌, nat_eq, nat_lt, nat_le, ◌&&◌, ◌||◌, not, Bool}
 use Rattle.std.specs.Prelude.{false, List, [], ◌∷◌, if◌then◌else◌, ◌-◌, ◌^◌, min}
 use Rattle.ym_timing.specs.declared.arrivals.Arrivals.{Arrivals}
 use Rattle.ym_heard.specs.declared.limits.TheConstants.{FULL}

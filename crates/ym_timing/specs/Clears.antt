@@ -1,9 +1,11 @@
 -- When a line has to clear before a write, and when it is clear (this profile).
 --
 -- Answers to several writes come no later than answers take, and no farther apart than the writes
--- were: both are enough. Where an end or the line stood still they come in a row, as soon as it
--- goes on. While a peer waits in vain it asks; such asks are no answers, and lengthen nothing.
-use Rattle.std.specs.Prelude.{ℕ, ◌+◌, ◌-◌, ◌*◌, ◌/◌, nat_eq, nat_lt, nat_le, ◌&&◌, ◌||◌, not, Bool}
+-- were: both are enough. A peer may have dropped copies between two that it answers, so as many
+-- gaps are let pass as answers may come yet. Where an end or the line stood still they come in a
+-- row, as soon as it goes on. While a peer waits in vain it asks; such asks are no answers, and
+-- lengthen nothing.
+use Rattle.std.specs.Prelude.{ℕ, ◌+◌, ◌-◌, ◌*◌, ◌/◌, ◌^◌, nat_eq, nat_lt, nat_le, ◌&&◌, ◌||◌, not, Bool}
 use Rattle.std.specs.Prelude.{true, false, List, max, min, if◌then◌else◌}
 use Rattle.ym_heard.specs.Ear.{listen}
 use Rattle.ym_timing.specs.Arrivals.{is_noise}
@@ -140,9 +142,13 @@ abbrev pub quiet_of : Role → ℕ
 quiet_of Sender = SENDER_QUIET
 quiet_of Receiver = RECEIVER_QUIET
 
--- as far apart as the writes, and a jitter
-abbrev pub apart_until : ℕ → Timing → ℕ
-apart_until from t = later (later from t.out.gap) APART
+-- so many times as far apart as two of the writes
+abbrev pub gaps : ℕ → Timing → ℕ
+gaps many t = min (t.out.gap * many) (2 ^ 64 - 1)
+
+-- and a jitter
+abbrev pub apart_until : ℕ → ℕ → Timing → ℕ
+apart_until many from t = later (later from (gaps many t)) APART
 
 -- A peer that never refused an EOT stores the file before it answers: rb takes a second.
 abbrev pub stores_by : Role → Kind → Bool → ℕ
@@ -155,15 +161,17 @@ stores_for t = stores_by t.role t.sent.kind t.is_refused
 abbrev pub answers_until : Timing → ℕ
 answers_until t = later (later t.out.last_at (bound t.pace)) (stores_for t)
 
--- as late as an answer may be
+-- as late as an answer may be; where nothing is known of that, as if each copy was answered
 abbrev pub overdue_at : Trust → ℕ → Timing → ℕ
-overdue_at trust.Unknown from t = apart_until from t
+overdue_at trust.Unknown from t = apart_until 1 from t
 overdue_at trust.Doubtful from t = answers_until t
 overdue_at trust.Sure from t = answers_until t
 
-abbrev pub several_until : ℕ → Timing → ℕ
-several_until from t =
-    max (later from (quiet_of t.role)) (min (apart_until from t) (overdue_at t.pace.trust from t))
+-- where so many answers may come yet
+abbrev pub several_until : ℕ → ℕ → Timing → ℕ
+several_until many from t =
+    max (later from (quiet_of t.role))
+    (min (apart_until many from t) (overdue_at t.pace.trust from t))
 
 abbrev pub late_quiet : Timing → ℕ
 late_quiet t = min (later t.pace.slowest (2 * MOMENT)) (quiet_of t.role)
@@ -194,7 +202,8 @@ abbrev pub until_by : Need → Purge → Timing → ℕ
 until_by need.Nothing c t = 0
 until_by need.Quiet c t = later c.from (quiet_of t.role)
 until_by need.Late c t = late_until c.from t
-until_by need.Several c t = if is_answered c t then 0 else several_until c.from t
+until_by need.Several c t =
+    if is_answered c t then 0 else several_until (max c.owed 1) c.from t
 
 -- CAN CAN ends it at once
 abbrev pub clear_at : Purge → Timing → ℕ

@@ -1,9 +1,11 @@
 -- Asks that crossed what they ask for, computed.
-use Rattle.std.specs.Prelude.{◌≡◌, List, ◌++◌, refl}
+use Rattle.std.specs.Prelude.{◌≡◌, [], ◌++◌, refl}
 use Rattle.ym_timing.specs.ByteRows.{after_bytes, heard_of, writes}
+use Rattle.ym_timing.specs.Clears.{clear_at, purge}
 use Rattle.ym_timing.specs.Pace.{last_sample}
 use Rattle.ym_timing.specs.Timing.{new_timing, until}
-use Rattle.ym_timing.specs.TimingExamples.{ack, block_1, end_block, nak, opening, start}
+use Rattle.ym_timing.specs.TimingExamples.{ack, ack_start, block_1, block_2, end_block, nak}
+use Rattle.ym_timing.specs.TimingExamples.{opening, start}
 use Rattle.ym_timing.specs.declared.pace.Trust.TheVariants.{Doubtful, Sure}
 use Rattle.ym_timing.specs.declared.role.Role.TheVariants.{Sender}
 use Rattle.ym_timing.specs.declared.timing.Expected.TheVariants.{Reply}
@@ -59,3 +61,17 @@ either = refl
 sooner : last_sample 9000 (record { slowest = 1000; trust = Doubtful })
     ≡ record { slowest = 9000; trust = Sure }
 sooner = refl
+
+-- ---- rb, where answers take 22 seconds: it drops what comes in the second before it asks
+
+abbrev three_out : Timing
+three_out = writes block_1 43000 (after_bytes nak block_1 43000 (writes block_1 33000
+    (after_bytes nak block_1 33000 (writes block_1 23000 (after_bytes ack_start opening 23000
+    (writes opening 1000 (after_bytes start [] 1000 (new_timing Sender))))))))
+
+abbrev one_answered : Timing
+one_answered = after_bytes ack block_1 45000 three_out
+
+-- two answers may come yet, and the second copy may be dropped: so twice ten seconds are let pass
+one_answered-clear : clear_at (purge block_2 45000 one_answered) one_answered ≡ 67000
+one_answered-clear = refl

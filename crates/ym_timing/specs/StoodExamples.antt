@@ -1,6 +1,6 @@
 -- Lines that stood still, computed: a frame was written more than once, and each copy is answered.
 -- A block is shortened to its head and two more bytes.
-use Rattle.std.specs.Prelude.{◌≡◌, ℕ, [], ◌++◌, refl}
+use Rattle.std.specs.Prelude.{◌≡◌, [], ◌++◌, refl}
 use Rattle.ym_timing.specs.Clears.{purge, clear_at}
 use Rattle.ym_timing.specs.ByteRows.{heard_of, after_bytes, drops, writes}
 use Rattle.ym_timing.specs.Timing.{new_timing, until, after_vain}

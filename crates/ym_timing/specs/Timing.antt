@@ -1,5 +1,5 @@
 -- The machine: until when an end waits, and what it hears (this profile).
-use Rattle.std.specs.Prelude.{ℕ, ◌+◌, ◌*◌, nat_eq, nat_lt, ◌&&◌, not, Bool, true, false, List, length}
+use Rattle.std.specs.Prelude.{ℕ, ◌+◌, ◌*◌, nat_eq, nat_lt, ◌&&◌, Bool, true, false, List, length}
 use Rattle.std.specs.Prelude.{slice_index, max, if◌then◌else◌}
 use Rattle.ym_heard.specs.Ear.{new_ear, listen}
 use Rattle.ym_timing.specs.Arrivals.{new_arrivals, take_byte, take_reply, waited}

@@ -10,6 +10,7 @@ ghost use Rattle.ym_timing.specs.Writing.{is_prompted};
 ghost use Rattle.ym_heard.specs.declared.limits.TheConstants.{SENDER_QUIET, UNASKED};
 ghost use Rattle.ym_timing.specs.declared.out.Owed.{Owed};
 ghost use Rattle.ym_timing.specs.declared.pace.Pace.{Pace};
+ghost use Rattle.ym_timing.specs.declared.pace.Trust.{Trust};
 ghost use Rattle.ym_timing.specs.declared.role.Role.{Role};
 ghost use Rattle.ym_timing.specs.declared.timing.Timing.{Timing};
 
@@ -29,11 +30,15 @@ pub fn answers_are_not_thought_quicker()
 {}
 
 /// An answer that is not overdue, and comes no farther behind the one before than the writes were
-/// apart and a jitter, comes before the line counts as clear.
+/// apart and a jitter, comes before the line counts as clear. Where it is known how long answers
+/// take, as many copies may have been dropped before it as others are awaited.
 pub fn late_answers_come_before_the_line_is_clear()
-    ensures { (t : Timing) (from at : ℕ) → at ≤ later t.out.last_at (bound t.pace)
-        → at ≤ apart_until from t
-        → at ≤ several_until from t }
+    ensures next { (t : Timing) (many from at : ℕ) → 0 < many
+        → at ≤ later t.out.last_at (bound t.pace) → at ≤ apart_until 1 from t
+        → at ≤ several_until many from t }
+    ensures known { (t : Timing) (many from at : ℕ) → (t.pace.trust ≡ Trust.Unknown → ⊥)
+        → at ≤ later t.out.last_at (bound t.pace) → at ≤ apart_until many from t
+        → at ≤ several_until many from t }
 {}
 
 /// What is let pass behind a late ask takes less than the two seconds after which U-Boot drops what

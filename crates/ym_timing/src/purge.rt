@@ -237,13 +237,22 @@ impl Timing {
         }
     }
 
-    /// When several answers have come: no later than they may, or no farther apart than the writes.
-    fn several_until(&self, from: u64) -> u64
-        ensures { result ≡ table.several_until from self.now }
+    /// So many times as far apart as the writes, and a jitter.
+    fn apart_until(&self, many: u8, from: u64) -> u64
+        ensures { result ≡ table.apart_until many from self.now }
     {
-        let apart = from.saturating_add(self.out.gap).saturating_add(APART);
+        let gaps = self.out.gap.saturating_mul(u64::from(many));
+        from.saturating_add(gaps).saturating_add(APART)
+    }
+
+    /// When several answers have come, of so many: no later than they may, or no farther apart
+    /// than the writes. A peer may have dropped copies between two that it answers.
+    fn several_until(&self, many: u8, from: u64) -> u64
+        ensures { result ≡ table.several_until many from self.now }
+    {
+        let apart = self.apart_until(many, from);
         let late = match self.pace.trust {
-            Trust::Unknown => apart,
+            Trust::Unknown => self.apart_until(1, from),
             Trust::Doubtful | Trust::Sure => {
                 let overdue_at = self.out.last_at.saturating_add(self.pace.bound());
                 overdue_at.saturating_add(self.stores_for())
@@ -292,7 +301,7 @@ impl Timing {
             Need::Quiet => purge.from.saturating_add(quiet_of(self.role)),
             Need::Late => self.late_until(purge.from),
             Need::Several if self.is_answered(purge) => 0,
-            Need::Several => self.several_until(purge.from),
+            Need::Several => self.several_until(purge.owed.max(1), purge.from),
         };
         until.min(purge.end_at)
     }

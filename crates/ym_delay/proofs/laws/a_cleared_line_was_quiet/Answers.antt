@@ -26,7 +26,7 @@ module _ (bytes : List ℕ) (l : Line) (t : Tape) (sender : l.timing.role ≡ Se
   }
 
   abbrev Clear : Cleared → Purge → Type 0
-  Clear e found = IsOverAtOnce found e.line ⊎ (IsSpent t e.tape ⊎ (min (clears.several_until l.timing.heard.answered_at l.timing) (later (began l t) 60000) ≤ e.line.clock.at))
+  Clear e found = IsOverAtOnce found e.line ⊎ (IsSpent t e.tape ⊎ (min (clears.several_until 1 l.timing.heard.answered_at l.timing) (later (began l t) 60000) ≤ e.line.clock.at))
 
   clear : (found : Purge) → (clears_for bytes l t).answer ≡ Ok found → Clear (clears_for bytes l t) found
   clear found ok =
@@ -35,10 +35,10 @@ module _ (bytes : List ℕ) (l : Line) (t : Tape) (sender : l.timing.role ≡ Se
       elim ends.is [ inl now ↦ inl now | inr rest ↦ elim rest [ inl spent ↦ inr (inl (let one = longest Looked t.done in omega (arith, spent, one))) | inr quiet ↦ inr (inr quiet) ] ]
 
   -- 1.25 seconds in any case
-  at-least : later l.timing.heard.answered_at 1250 ≤ clears.several_until l.timing.heard.answered_at l.timing
+  at-least : later l.timing.heard.answered_at 1250 ≤ clears.several_until 1 l.timing.heard.answered_at l.timing
   at-least =
       let quiet : later l.timing.heard.answered_at (clears.quiet_of l.timing.role) ≡ later l.timing.heard.answered_at 1250 = ap (λ r. later l.timing.heard.answered_at (clears.quiet_of r)) sender in
-      subst (λ n. n ≤ clears.several_until l.timing.heard.answered_at l.timing) quiet (most _ _ _)
+      subst (λ n. n ≤ clears.several_until 1 l.timing.heard.answered_at l.timing) quiet (most _ _ _)
     where
       most : (a b c : ℕ) → a ≤ max a (min b c)
       most a b c = omega arith

@@ -1,4 +1,4 @@
-use Rattle.std.proofs.Common.{◌≡◌, ◌⊎◌, ◌+◌, ◌-◌, ◌^◌, ◌<◌, ◌≤◌, ◌&&◌, inl, inr, ℕ, zero, suc, min, max, nat_eq, nat_lt, nat_le, not, Bool, true, false, List, [], ◌∷◌, refl, sym, subst, arith}
+use Rattle.std.proofs.Common.{◌≡◌, ◌⊎◌, ◌+◌, ◌-◌, ◌*◌, ◌^◌, ◌<◌, ◌≤◌, ◌&&◌, inl, inr, ℕ, zero, suc, min, max, nat_eq, nat_lt, nat_le, not, Bool, true, false, List, [], ◌∷◌, refl, sym, subst, arith}
 use Rattle.ym_timing.specs.Clears.{answers_until, apart_until, is_whole, overdue_at, quiet_of, several_until}
 use Rattle.ym_timing.specs.Pace.{bound}
 use Rattle.ym_heard.specs.Times.{later}
@@ -22,7 +22,7 @@ use Rattle.ym_delay.proofs.laws.rule.the_rule_lets_a_line_clear.Goals as goal
 later-enough : (goal from wait : ℕ) → goal ≤ from + wait → goal < 2 ^ 64 → goal ≤ later from wait
 later-enough goal from wait long within = omega (arith, long, within)
 
-apart-enough : (goal from gap wait : ℕ) → goal ≤ from + gap + wait → goal < 2 ^ 64 → goal ≤ later (later from gap) wait
+apart-enough : (goal from gap wait : ℕ) → goal ≤ from + gap + wait → goal < 2 ^ 64 → goal ≤ later (later from (min (gap * 1) (2 ^ 64 - 1))) wait
 apart-enough goal from gap wait long within = omega (arith, long, within)
 
 first-enough : (goal a b c : ℕ) → goal ≤ a → goal ≤ max a (min b c)
@@ -38,7 +38,7 @@ module _ (span at next : ℕ) (rule : WaitsByRule span at next) where
   stored : span ≤ bound rule.timing.pace → at + span ≤ answers_until rule.timing
   stored seen = let last = rule.last in let within = rule.within in omega (arith, last, seen, within)
 
-  overdue : (trust : Trust) → IsSeen trust span rule.timing → at + span ≤ apart_until rule.timing.heard.answered_at rule.timing → at + span ≤ overdue_at trust rule.timing.heard.answered_at rule.timing
+  overdue : (trust : Trust) → IsSeen trust span rule.timing → at + span ≤ apart_until 1 rule.timing.heard.answered_at rule.timing → at + span ≤ overdue_at trust rule.timing.heard.answered_at rule.timing
   overdue Unknown seen apart = apart
   overdue Doubtful seen apart = stored seen
   overdue Sure seen apart = stored seen
@@ -46,7 +46,7 @@ module _ (span at next : ℕ) (rule : WaitsByRule span at next) where
   quiet : at + span ≤ rule.timing.heard.answered_at + 1250 → at + span ≤ later rule.timing.heard.answered_at (quiet_of rule.timing.role)
   quiet short = subst (λ r. at + span ≤ later rule.timing.heard.answered_at (quiet_of r)) (sym rule.role) (later-enough (at + span) rule.timing.heard.answered_at 1250 short rule.within)
 
-  clears : Reaches span at rule.timing → at + span ≤ several_until rule.timing.heard.answered_at rule.timing
+  clears : Reaches span at rule.timing → at + span ≤ several_until 1 rule.timing.heard.answered_at rule.timing
   clears (inl short) = first-enough (at + span) _ _ _ (quiet short)
   clears (inr (long, within, seen)) =
       let apart = apart-enough (at + span) rule.timing.heard.answered_at rule.timing.out.gap 2000 long rule.within in
