@@ -2,6 +2,7 @@
 // at once and over lines that are late. usage: node wasm.mjs MODULE
 import { readFileSync } from "node:fs";
 import { argv, exit } from "node:process";
+import { Rb } from "./rb.mjs";
 
 // A node that knows no memory of 64 bits refuses the module; status 77 tells that.
 function instance() {
@@ -36,7 +37,7 @@ function room(size) {
   wants(next <= bytes.length, "no room");
   return at;
 }
-const receiver = { at: room(1152), state: 28, len: 116, held: 120 }, sender = { at: room(1072), len: 12, state: 28, frame: 36 };
+const receiver = { at: room(1152), state: 28, len: 116, held: 120 }, sender = { at: room(1072), file: 8, len: 12, state: 28, frame: 36 };
 const ask = { at: room(48), count: 16, kind: 24, place: 28 }, fill = { at: room(16), kind: 8, file: 12 };
 const blocks = room(64), reply = room(8), scratch = room(2048);
 const u32 = (of, field) => view.getUint32(of.at + field, true), u64 = (of, field) => Number(view.getBigUint64(of.at + field, true));
@@ -226,10 +227,11 @@ function* sends(end) {
   }
 }
 
-const delivery = room(4 * SIZE), near = new End(false), far = new End(true);
+const delivery = room(4 * SIZE), near = new End(false), ours = new End(true), rb = new Rb(() => clock, stored);
 
-// Plays both ends on a line that hands on each write of an end as long behind it as this says.
-function play(delayed) {
+// Plays both ends on a line that hands on each write of an end as long behind it as this says. No
+// file is reported that is not there.
+function play(delayed, far = ours) {
   clock = 0;
   stored.length = 0;
   near.start(sends);
@@ -250,6 +252,8 @@ function play(delayed) {
     clock = Math.max(clock, when);
     end.resume(end.inbox[0]?.at <= clock ? end.inbox.shift().piece : undefined);
   }
+  const reported = u32(sender, sender.file);
+  wants(reported <= stored.length, `${reported} files of ${stored.length} are reported`);
   return [u32(sender, sender.state), u32(receiver, receiver.state)];
 }
 
@@ -271,7 +275,30 @@ function late(delay, stalls, held, at) {
 
 for (const delay of [0, 500, 1500, 2500, 4000]) late(delay, near, 0, 0);
 for (const held of [3500, 6000, 12000]) {
-  for (let at = 1; at < 12; at++) for (const end of [near, far]) late(500, end, held, at);
+  for (let at = 1; at < 12; at++) for (const end of [near, ours]) late(500, end, held, at);
+}
+
+// How much of a jitter a write meets, from 0 to 1.
+function chance(seed) {
+  let state = seed;
+  return () => (state = (state * 1664525 + 1013904223) >>> 0) / 2 ** 32;
+}
+
+// ---- `rb`, which asks again and again, whatever the line takes, and drops what comes meanwhile.
+
+function toRb(delay, jitter, seed) {
+  const how = `to rb, ${delay} ms each way, up to ${jitter} more, seed ${seed}`;
+  const more = chance(seed);
+  const [sent] = play(() => delay + Math.floor(jitter * more()), rb);
+  exact(how);
+  const isAll = rb.hasAll && stored.length === files.length;
+  wants(sent !== 1 || isAll, `${how}: finished, and ${stored.length} files are there`);
+  wants(jitter > 0 || sent === 1, `${how}: the sender is at ${sent}`);
+}
+
+for (let delay = 0; delay <= 12000; delay += 250) {
+  toRb(delay, 0, 0);
+  for (let seed = 1; seed < 5; seed++) toRb(delay, 1000, seed);
 }
 
 // ---- Clocks that lie: they delay, and no report is false. Each answer takes up to a second more
@@ -284,10 +311,9 @@ const CLOCKS = {
 
 function lies(name, delay, seed) {
   const how = `a clock that ${name}, ${delay} ms each way, seed ${seed}`;
-  let state = seed;
-  const jitter = () => (state = (state * 1664525 + 1013904223) >>> 0) / 2 ** 32 * 1000;
+  const more = chance(seed);
   told = CLOCKS[name];
-  const [sent, received] = play(() => delay + Math.floor(jitter()));
+  const [sent, received] = play(() => delay + Math.floor(1000 * more()));
   exact(how);
   const isAll = received === 1 && stored.length === files.length;
   wants(sent !== 1 || isAll, `${how}: finished, and ${stored.length} files are there`);

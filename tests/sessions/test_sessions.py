@@ -193,6 +193,8 @@ def long_rows(seeds):
         rows += [
             *delay_rows(ends, steps(0, 4), 0, True),
             *delay_rows(ends, steps(0, 4), 1, True),
+            *delay_rows(ends, steps(4.25, 12), 0, False),
+            *delay_rows(ends, steps(4.25, 12, 1), 1, False),
             *late_rows(ends, (0, 1, 3, 5, 10, 20, 29, 45, 60), (0, 0.5, 2)),
             *stall_rows(ends, (1, 3, 6, 9, 12, 21, 30), (0, 0.5, 1, 2), range(1, WRITES + 1)),
         ]
