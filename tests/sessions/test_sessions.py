@@ -215,6 +215,8 @@ def short_rows(seeds):
         *stall_rows(("send", "rb"), (1, 6), (2,), (6, 7), is_whole=True),
         # its asks cross what they ask for
         *delay_rows(("send", "rb"), (3.25,), 1, True),
+        # it drops what comes in the second before it asks, so one answer is that of the next copy
+        *delay_rows(("send", "rb"), (6.5,), 0, True),
         *echo_rows(SOCKETS, PAIRS[1]),
         *delay_rows(TERMINALS, (0.5, 2), 0, True),
         *delay_rows(TERMINALS, (1.5,), 1, True),
