@@ -38,10 +38,17 @@ class Loud:
 
 
 class Shown(Loud):
-    """The same, without complaints of the browser."""
+    """The same, without complaints of the browser. Where a connection is cut Firefox tells of that,
+    if bytes were on their way to it."""
+
+    def __init__(self, room, before="", is_cut=False, **how):
+        super().__init__(room, before, **how)
+        self.is_cut = is_cut
 
     def __exit__(self, kind, *_):
         said = self.page.complaints()
+        if self.is_cut:
+            said = [it for it in said if not it.startswith("The connection to ws://")]
         self.page.close()
         if kind is None:
             assert not said, "the page complains: %s" % said

@@ -230,10 +230,10 @@ def test_long_name(room):
 
 
 @contextlib.contextmanager
-def sending_firmware(room):
+def sending_firmware(room, **how):
     """The page in the middle of a transfer, on a line that stands still: the page, the loader at
     its other end, and the line."""
-    with folders() as (here, there), Shown(room) as page:
+    with folders() as (here, there), Shown(room, **how) as page:
         line = Held(SIZE // 3)
         loader = Loader(there, line)
         dial(page, loader.bridge.address)
@@ -284,7 +284,7 @@ def test_cancels_receiving(room):
 @cases_in(BROWSERS, case("page: the line vanishes in a transfer", marks=NEEDS_LRZSZ))
 def test_vanishes(room):
     """The port is gone in the middle of a transfer."""
-    with sending_firmware(room) as (page, loader, line):
+    with sending_firmware(room, is_cut=True) as (page, loader, line):
         loader.close()
         line.go_on()
         until_ended(page)
