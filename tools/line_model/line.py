@@ -213,7 +213,7 @@ class Line:
     def ends_came(self, side, piece):
         self.ends[side].came(piece)
 
-    def run(self, sender, receiver, until=3000 * SECOND):
+    def run(self, sender, receiver, until=9000 * SECOND):
         """Runs both until they are over; answers their results, and the moment of the later one."""
         self.ends = [End(self, "sender", sender), End(self, "receiver", receiver)]
         for end in self.ends:
