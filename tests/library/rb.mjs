@@ -1,5 +1,6 @@
 // A receiver of another maker, on a line of wasm.mjs: a generator, as its ends are, that yields how
 // long it waits, and gets what came, or nothing.
+
 // lrzsz's `rb`, as its source has it. It waits ten seconds for block 0, thirteen for block 1, five
 // for another one, and four where it asked again. Before it asks, and behind an EOT's ACK, it drops
 // what comes until a second was quiet. No line damages a byte here, so a frame that came is right.
