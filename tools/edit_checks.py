@@ -6,7 +6,6 @@ import os
 import re
 import shutil
 import subprocess
-import tempfile
 import threading
 import time
 
@@ -65,27 +64,50 @@ def counted(edits):
     return "1 edit" if len(edits) == 1 else "%d edits" % len(edits)
 
 
+# The line that tells of a function whose proof was just checked.
+CHECKED = re.compile(r"checked (\S+), \d+ of \d+$")
+
+
+def shared_out(seconds, heard):
+    """The processor seconds of each function that a check told of, by the times at which its lines
+    were heard: a proof is at work between the line ahead of its own and that. Those of a check that
+    took no time are none."""
+    found, began, ended = {}, heard[0][0], heard[-1][0]
+    for (ahead, _), (time_of, line) in zip(heard, heard[1:]):
+        told = CHECKED.match(line)
+        if told and ended > began:
+            found[told[1]] = (time_of - ahead) / (ended - began) * seconds
+    return found
+
+
 class Checked:
     """A check of the crate in this folder, by one job: its status, what it said, and the processor
-    seconds that it took."""
+    seconds that it took, in all and for each function."""
 
     running, is_over = set(), False
 
     def __init__(self, folder):
         if self.is_over:
             raise SystemExit
-        with tempfile.TemporaryFile("w+", errors="replace") as said:
-            how = {"stdin": subprocess.DEVNULL, "stdout": said, "stderr": subprocess.STDOUT}
-            child = subprocess.Popen([*RT, "check", "--jobs", "1"], cwd=folder, **how)
-            self.running.add(child)
-            _, status, used = os.wait4(child.pid, 0)
-            self.running.discard(child)
-            child.returncode = self.status = os.waitstatus_to_exitcode(status)
-            # Most likely for memory: by a signal, or as rt or a shell tell of it.
-            self.is_killed = self.status in (-9, 137, 247)
-            self.seconds = used.ru_utime + used.ru_stime
-            said.seek(0)
-            self.text = said.read()
+        how = {"stdin": subprocess.DEVNULL, "stdout": subprocess.PIPE, "stderr": subprocess.STDOUT}
+        how |= {"text": True, "errors": "replace"}
+        heard = [(time.monotonic(), "")]
+        child = subprocess.Popen([*RT, "check", "--jobs", "1"], cwd=folder, **how)
+        self.running.add(child)
+        with child.stdout:
+            heard += [(time.monotonic(), line) for line in child.stdout]
+        _, status, used = os.wait4(child.pid, 0)
+        self.running.discard(child)
+        child.returncode = self.status = os.waitstatus_to_exitcode(status)
+        # Most likely for memory: by a signal, or as rt or a shell tell of it.
+        self.is_killed = self.status in (-9, 137, 247)
+        self.seconds = used.ru_utime + used.ru_stime
+        self.took = shared_out(self.seconds, [*heard, (time.monotonic(), "")])
+        self.text = "".join(line for _, line in heard)
+
+    def seconds_of(self, names):
+        """The processor seconds of these functions."""
+        return sum(self.took.get(it, 0) for it in names)
 
     @classmethod
     def stop(cls):

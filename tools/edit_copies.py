@@ -138,24 +138,30 @@ class Copies:
                 return self.again(unread(groups, folder, ran.text))
         copied = {it.name for group in groups for it in group.copies()}
         told = [it for it in said.states if copied.isdisjoint(it.split("::"))]
-        settled = self.settled(groups, placed, said, told)
+        names = {it.edit: it.names(said.states) for group in groups for it in group.edited}
+        names |= {it: it.all_names(self.trial.name, told) for it in placed}
+        for edit in names:
+            self.trial.note(edit, ran.seconds_of(names[edit]))
+        settled = self.settled(groups, names, said)
         for edit in settled:
             self.trial.settle(edit)
         left = [it for it in (*self.edits, *self.placed) if it not in settled]
         return self.trial.in_place(left, told)
 
-    def settled(self, groups, placed, said, told):
-        """The edits whose copies, or whose functions, are refused for themselves."""
-        names = {it.edit: it.names(said.states) for group in groups for it in group.edited}
-        names |= {it: it.all_names(self.trial.name, told) for it in placed}
+    def settled(self, groups, names, said):
+        """The edits whose copies, or whose functions, are refused for themselves, by the names of
+        these."""
         plain = [name for group in groups for name in group.plain.names(said.states)]
         # As where all edits are made where the functions stand.
         reaches = not {*plain, *itertools.chain(*names.values())}.issuperset(said.refused())
-        shown = [it for it in groups if it.shows(self.trial.name, said, self.trial.folder)]
+        hidden = [it for it in groups if not it.shows(self.trial.name, said, self.trial.folder)]
+        unsure = [it for group in hidden for it in group.edits]
         return [
             it
-            for it in (*itertools.chain(*(group.edits for group in shown)), *placed)
-            if said.refuses(names[it]) and not (reaches and said.waits(names[it]))
+            for it in names
+            if it not in unsure
+            and said.refuses(names[it])
+            and not (reaches and said.waits(names[it]))
         ]
 
     def again(self, unread):

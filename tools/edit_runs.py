@@ -45,8 +45,10 @@ class Run:
         if Checked.is_over:
             return []
         self.trial.tell("%s, %s" % (self.what, counted(self.edits)), seconds)
-        said = Said(self.trial.name, ran.text)
-        if len(self.edits) == 1:
+        said, is_alone = Said(self.trial.name, ran.text), len(self.edits) == 1
+        for edit in self.edits:
+            self.trial.note(edit, seconds if is_alone else ran.seconds_of(edit.names))
+        if is_alone:
             self.trial.settle(self.edits[0], *judged(self.edits[0], ran.status, said))
             return []
         if ran.status == 0:

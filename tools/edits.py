@@ -62,6 +62,8 @@ ROOM = os.path.join(tempfile.gettempdir(), "edits-%d-%s" % (os.getuid(), sum_of(
 # Counted up where an edit may be judged otherwise than before: what was kept is tried again then.
 JUDGEMENT = 2
 TRIED = ("must-fail", "edits")
+# So many of the dearest edits are told.
+DEAREST = 12
 
 
 class Trial:
@@ -81,6 +83,8 @@ class Trial:
         self.settled = Settled(name, self.names, [JUDGEMENT, version, *self.lines], anew)
         self.lock, self.rooms = threading.Lock(), set()
         self.told, self.passed, self.failed = [], 0, 0
+        # The processor seconds that each edit took, but for what a check begins with.
+        self.took = {}
         # Whether its library is proved from this text, and else the processor seconds that the
         # crate's own proof takes.
         self.is_proved, self.own = False, 0
@@ -162,9 +166,10 @@ class Trial:
         fit = [it for it in self.edits if self.can_be_applied(it)]
         proofs = proofs_of(self.name, self.folder)
         copied = [it for it in fit if can_be_copied(it, proofs) and not self.are_proved]
-        placed = one_of_each([it for it in fit if it not in copied]) if copied else []
+        placed = [] if self.are_proved else one_of_each([it for it in fit if it not in copied])
         self.others = [it for it in fit if it not in (*copied, *placed)]
-        return [Copies(self, copied, placed)] if copied else self.in_place([], self.told)
+        has_some = copied or placed
+        return [Copies(self, copied, placed)] if has_some else self.in_place([], self.told)
 
     def is_proved_here(self, edits):
         """Proves the crate, and has the prover tell of its functions. Gives whether it is proved;
@@ -180,6 +185,10 @@ class Trial:
             why = "its crate is not proved without it: %s" % said.first_error()
             self.left_untried(why, edits)
         return not ran.status
+
+    def note(self, edit, seconds):
+        with self.lock:
+            self.took[edit] = self.took.get(edit, 0) + seconds
 
     def left_untried(self, why, edits):
         for edit in edits:
@@ -325,6 +334,16 @@ def tried(names, listed, anew, lanes, kind=Trial):
             shutil.rmtree(ROOM, ignore_errors=True)
 
 
+def tell_dearest(took):
+    """Tells which edits took longest, and what all together did."""
+    if not took:
+        return
+    told = len(took), sum(seconds for _, seconds in took)
+    print("%d edits took %.0f processor seconds; the dearest:" % told)
+    for edit, seconds in sorted(took, key=lambda it: -it[1])[:DEAREST]:
+        print("%8.1f  %s" % (seconds, os.path.relpath(edit.file, CRATES)))
+
+
 def main(words):
     listed = Listed()
     anew, lanes, names = options(words, listed)
@@ -333,6 +352,7 @@ def main(words):
         trials = tried(names, listed, anew, lanes)
     except KeyboardInterrupt:
         return 130
+    tell_dearest([it for trial in trials for it in trial.took.items()])
     own = sum(it.own for it in trials) / 60
     print("%.1f processor minutes, %.1f of them for the crates' own proofs" % (used(), own))
     failed = sum(it.failed for it in trials)

@@ -202,6 +202,19 @@ def test_in_place():
     assert runs_of("run") == wanted, "its runs"
 
 
+@sentence("the edits that took longest are told")
+def test_dearest():
+    """Of those that could be tried, the dearest first."""
+    lines = Tried.once().all[1]
+    at = next(it for it, line in enumerate(lines) if "; the dearest:" in line)
+    assert re.match(r"9 edits took \d+ processor seconds; ", lines[at]), lines[at]
+    told = [re.fullmatch(r" *(\d+\.\d)  sums/(.*)\.edit", it) for it in lines[at + 1 :]]
+    took = [float(it[1]) for it in told if it]
+    assert took == sorted(took, reverse=True) and 0 < took[0], "what they took: %s" % took
+    named = sorted(it[2] for it in told if it)
+    assert named == sorted(it for it in EDITS if not it.endswith(FAIL[2:])), "their names"
+
+
 PLAIN, OTHER = "sums::fourth_copy_1", "sums::fourth_copy_2"
 
 
