@@ -17,8 +17,9 @@ about that edit. An edit fails that is
   no verdict, not tried
 
 What is settled is kept in out/edits, by the sums of the texts of the crate, of those below it and
-of the edit, and by the toolchain: a later run tries only what changed. The last line is 'N passed,
-M failed', and the status is 1 where one failed.
+of the edit, and by the toolchain: a later run tries only what changed. At the end it tells which
+edits took longest, by the lines that tell of their functions. The last line is 'N passed, M
+failed', and the status is 1 where one failed.
 
 It calls `rt check` and `rt version` alone, in copies of the crates among the temporary files, and
 reads what `rattle check --help` describes: the lines `fn NAME: ..`, the places of errors, and the
