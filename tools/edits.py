@@ -27,8 +27,8 @@ last line. The calls that `rt`, a script, makes for its own edits could be taken
 are nobody's interface: a new toolchain may rename them, where it keeps its commands.
 
 It begins with what a build or `rt check` kept of the crates, here or in another copy on this
-machine. The libraries that are not there are proved first, side by side, as a build does it. A
-crate whose own library is there needs no other proof.
+machine. The libraries that are not there are proved too, and the edits of a crate are tried once
+its own is there. A crate whose library is there needs no other proof.
 
 usage: edits.py [--anew] [--jobs N] [CRATE..]
   --anew      tries also what an earlier run settled
@@ -56,7 +56,8 @@ from edit_copies import Copies, can_be_copied, one_of_each, proofs_of
 from edit_crates import CRATES, KEPT, ROOT, Listed, Settled, lines_of, sum_of
 from edit_runs import PROVED, Run
 from edit_texts import Edit, Unfit
-from libraries import Libraries
+from libraries import NEEDS, Libraries
+from proved import made_of
 
 # One folder for each checkout: rt notes each folder where it proves, and so it notes few.
 ROOM = os.path.join(tempfile.gettempdir(), "edits-%d-%s" % (os.getuid(), sum_of(ROOT)[:12]))
@@ -254,28 +255,71 @@ def free_memory():
     return 0.85 * min(found, default=4 * 10**9)
 
 
-def in_lanes(trials, lanes):
-    """Makes the runs of these crates side by side, the dearest crates first."""
-    needs = {it: it.memory() for it in trials}
-    dearest = sorted(trials, key=lambda it: -len(it.edits) * needs[it])
-    left, running, memory = [(it, it) for it in dearest], {}, free_memory()
-    pool = ThreadPoolExecutor(lanes)
-    try:
-        while left or running:
-            for trial, work in list(left):
-                held = sum(needs[it] for it in running.values())
-                if len(running) < lanes and (not running or held + needs[trial] <= memory):
-                    left.remove((trial, work))
-                    running[pool.submit(work.begin)] = trial
-            for ended in wait(running, return_when=FIRST_COMPLETED).done:
-                trial = running.pop(ended)
-                left += [(trial, it) for it in ended.result()]
-                if trial not in [*running.values(), *(it for it, _ in left)]:
-                    trial.end()
-            left.sort(key=lambda it: dearest.index(it[0]))
-    finally:
-        Checked.stop()
-        pool.shutdown(cancel_futures=True)
+class Lanes:
+    """The proofs of libraries and the runs of trials, side by side, by one job each: a second job of
+    a proof costs processor time, and there is enough else to do.
+
+    Libraries go ahead, the one first that begins the longest row of crates. The runs of a crate
+    begin once its library is there, those of the dearest crate first."""
+
+    def __init__(self, trials, count):
+        self.count, self.memory = count, free_memory()
+        self.libraries = Libraries(*(it.name for it in trials), with_tops=True)
+        rows = self.libraries.rows
+        self.unproved = sorted(self.libraries.lacking(), key=lambda it: -rows[it])
+        self.needs = {it: it.memory() for it in trials}
+        dearest = sorted(trials, key=lambda it: -len(it.edits) * self.needs[it])
+        self.places = {it: place for place, it in enumerate(dearest)}
+        self.left = [(it, it) for it in dearest]
+        # What goes on: the libraries, and the trials whose runs these are.
+        self.proofs, self.runs = {}, {}
+
+    def make(self):
+        """Makes all. Each trial is ended behind its last run."""
+        pool = ThreadPoolExecutor(self.count)
+        try:
+            while self.begin(pool):
+                going = [*self.proofs, *self.runs]
+                for ended in wait(going, return_when=FIRST_COMPLETED).done:
+                    self.end(ended)
+        finally:
+            Checked.stop()
+            self.libraries.stop()
+            pool.shutdown(cancel_futures=True)
+            self.libraries.leave()
+
+    def begin(self, pool):
+        """Begins what has room. Gives whether anything goes on."""
+        for name in self.libraries.ready(self.unproved, self.proofs.values()):
+            if self.has_room(NEEDS):
+                self.unproved.remove(name)
+                self.proofs[pool.submit(self.libraries.make, name, 1)] = name
+        waits = {*self.unproved, *self.proofs.values()}
+        for trial, work in [it for it in self.left if waits.isdisjoint(it[0].names)]:
+            if self.has_room(self.needs[trial]):
+                self.left.remove((trial, work))
+                trial.is_proved = self.libraries.has(trial.name)
+                self.runs[pool.submit(work.begin)] = trial
+        return self.proofs or self.runs
+
+    def has_room(self, need):
+        going = len(self.proofs) + len(self.runs)
+        held = NEEDS * len(self.proofs) + sum(self.needs[it] for it in self.runs.values())
+        return going < self.count and (not going or held + need <= self.memory)
+
+    def end(self, ended):
+        if ended in self.proofs:
+            name, (status, _) = self.proofs.pop(ended), ended.result()
+            print("%s: its library%s" % (name, " is not proved" * bool(status)), flush=True)
+            if status:
+                # Of one that is not proved, the own proofs of those above it tell.
+                self.unproved = [it for it in self.unproved if name not in made_of(it)]
+            return
+        trial = self.runs.pop(ended)
+        self.left += [(trial, it) for it in ended.result()]
+        self.left.sort(key=lambda it: self.places[it[0]])
+        if trial not in [*self.runs.values(), *(it for it, _ in self.left)]:
+            trial.end()
 
 
 def options(words, listed):
@@ -299,23 +343,6 @@ def used():
     return (found.children_user + found.children_system) / 60
 
 
-def prove_below(trials):
-    """Has the libraries that these crates stand on proved, each once. Of one that is not, the own
-    proofs of those above it tell."""
-    libraries, told = Libraries(*(it.name for it in trials), with_tops=True), []
-
-    def hear(name, status, _):
-        told.append(name)
-        print("%s: its library%s" % (name, " is not proved" * bool(status)), flush=True)
-
-    libraries.prove(hear)
-    if told:
-        print("the libraries: %.1f processor minutes" % used(), flush=True)
-    lacking = libraries.lacking()
-    for it in trials:
-        it.is_proved = it.name in libraries.names and it.name not in lacking
-
-
 def tried(names, listed, anew, lanes, kind=Trial):
     """Tries the edits of these crates. Gives the trials, which are of this kind."""
     version = subprocess.run(["rt", "version"], capture_output=True, text=True, check=True).stdout
@@ -328,8 +355,10 @@ def tried(names, listed, anew, lanes, kind=Trial):
         try:
             trials = [kind(name, listed, version, anew) for name in names]
             is_open = [it for it in trials if it.edits]
-            prove_below(is_open)
-            in_lanes(is_open, lanes)
+            made = Lanes(is_open, lanes)
+            made.make()
+            if made.libraries.minutes:
+                print("the libraries: %.1f processor minutes" % made.libraries.minutes, flush=True)
             return trials
         finally:
             shutil.rmtree(ROOM, ignore_errors=True)

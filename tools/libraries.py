@@ -27,6 +27,7 @@ from concurrent.futures import FIRST_COMPLETED, ThreadPoolExecutor, wait
 
 import proved
 from proved import CRATES, PROOF_PARTS, ROOT, crates, made_of, sources, sum_of
+from shown import reaped
 
 ROOMS = os.path.join(ROOT, "out", "rooms")
 # For which text the libraries were made that lie in the crates' out/.
@@ -106,6 +107,8 @@ class Libraries:
             self.sums[name] = hashlib.sha256(repr(made_from).encode()).hexdigest()
         self.noted, self.rows = proved.noted(NOTE), self.rows_of()
         self.lock, self.running, self.is_over = threading.Lock(), set(), False
+        # The processor minutes that the proofs took.
+        self.minutes = 0
 
     def lacking(self):
         """The names of those that have to be proved, lowest first."""
@@ -144,15 +147,22 @@ class Libraries:
         finally:
             self.stop()
             pool.shutdown(cancel_futures=True)
-            shutil.rmtree(ROOMS, ignore_errors=True)
+            self.leave()
         return True
+
+    def leave(self):
+        """Clears the rooms, behind the last proof."""
+        shutil.rmtree(ROOMS, ignore_errors=True)
+
+    def has(self, name):
+        """Whether this library is proved from the text that is there."""
+        return name in self.names and name not in self.lacking()
 
     def next(self, left, running, most):
         """The crates to begin now, of those that are left, the longest row first, with the
         processors that each gets."""
         going = [name for name, _ in running]
-        waits = {*left, *going}
-        ready = [name for name in left if waits.isdisjoint(self.used[name])]
+        ready = self.ready(left, going)
         idle, begun = max(0, most - sum(jobs for _, jobs in running)), []
         if idle and ready and self.leads(ready[0], [*left, *going]):
             jobs = max(idle // len(ready), min(idle, most // 2), 1)
@@ -160,6 +170,11 @@ class Libraries:
             idle -= jobs
         count = min(idle, len(ready))
         return begun + [(name, (idle + at) // count) for at, name in enumerate(ready[:count])]
+
+    def ready(self, left, going):
+        """Those of the crates that are left that wait for none of these, nor for one that goes on."""
+        waits = {*left, *going}
+        return [name for name in left if waits.isdisjoint(self.used[name])]
 
     def leads(self, name, others):
         """Whether none of these begins a longer row."""
@@ -177,8 +192,11 @@ class Libraries:
             words = [*proved.RT, *self.verb, "--jobs", str(jobs)]
             child = subprocess.Popen(words, cwd=os.path.join(top, "crates", name), **how)
             self.running.add(child)
-        said, _ = child.communicate()
+        with child.stdout:
+            said = child.stdout.read()
+        used = reaped(child)
         with self.lock:
+            self.minutes += used
             self.running.discard(child)
             bring(name)
             if child.returncode == 0:
