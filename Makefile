@@ -10,9 +10,9 @@
 #                        is 'N passed, M failed', and beside it want of memory, the library, the
 #                        page, and the program that it proved on sockets and files
 # make memory            each growth of memory refused in turn, alone
-# make edits             tries every edit of the crates, many in a check; the gate tries a few of
-#                        them. CRATES="A B" takes those of these crates, ANEW=1 also what was
-#                        settled
+# make edits             tries the edits of the crates, many in a check; the gate tries a few of
+#                        them. Those of private functions it tries where CRATES="A B" names their
+#                        crates, or EVERY=1 asks for all. ANEW=1 takes also what was settled
 # make plants            plants wrong bodies that no contract refuses, and tells for each by which
 #                        test it is caught (docs/plants.md). CRATES="A B" takes those of these
 #                        crates, or of share or include; TESTS=1 asks the tests alone
@@ -67,7 +67,7 @@ memory:
 	@tools/checks.py memory
 
 edits:
-	@tools/edits.py $(if $(ANEW),--anew) $(if $(JOBS),--jobs $(JOBS)) $(CRATES)
+	@tools/edits.py $(if $(ANEW),--anew) $(if $(EVERY),--every) $(if $(JOBS),--jobs $(JOBS)) $(CRATES)
 
 plants:
 	@tools/plants.py $(if $(TESTS),--tests) $(if $(JOBS),--jobs $(JOBS)) $(CRATES)

@@ -26,6 +26,8 @@ TOKEN = re.compile(
 )
 # What stands ahead of the braces of a clause, between a function's head and its body.
 CLAUSE = re.compile(r"\b(requires|ensures|ghost)\b[^{}]*$")
+# What other crates can call.
+PUBLIC = re.compile(r"\bpub\s+((const|unsafe|extern|\"C\")\s+)*fn\s+\w+\Z")
 CYCLE = re.compile(r"#\s*\[\s*cycle\s*\(\s*(\w+)\s*\)")
 
 
@@ -113,6 +115,11 @@ class Edit:
         """The prover's names of the functions that it changes."""
         return {name for it in self.functions for name in it.names(crate, told)}
 
+    def is_seen(self):
+        """Whether what it changes is seen from outside: a public function, one of a trait, or a
+        definition."""
+        return not self.functions or any(it.is_public or it.is_of_trait for it in self.functions)
+
     def places(self):
         """The functions that it changes, each with its file."""
         return zip((path for path, _, _ in self.pairs()), self.functions)
@@ -155,6 +162,7 @@ class Function:
         self.named, self.is_of_trait = start + len(head), is_of_trait
         modules = [it for it in path[:-1] if isinstance(it, str)]
         cycle = CYCLE.search(head)
+        self.is_public = bool(PUBLIC.search(head))
         # Functions that call one another have one proof.
         self.cycle = [*modules, "+" + cycle[1]] if cycle else []
         self.is_const = bool(re.search(r"\bconst\b", head[: head.rfind("fn ")]))

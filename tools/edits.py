@@ -1,6 +1,8 @@
 #!/usr/bin/env python3
-"""Tries every edit of the crates, those of must-fail/ and those of edits/: with each the prover has
-to refuse the function that it changes.
+"""Tries the edits of the crates, those of must-fail/ and those of edits/: with each the prover has
+to refuse the function that it changes. Of crates that are named all edits are tried. Over all
+crates those of private functions in edits/ are left out: what others can rely on are the contracts
+of public functions, those of traits, and definitions.
 
 The prover tells a verdict of each function, so many edits share one check. Most are tried on copies
 of their functions, all at once (edit_copies.py). The others are made where the functions stand, one
@@ -30,8 +32,9 @@ It begins with what a build or `rt check` kept of the crates, here or in another
 machine. The libraries that are not there are proved too, and the edits of a crate are tried once
 its own is there. A crate whose library is there needs no other proof.
 
-usage: edits.py [--anew] [--jobs N] [CRATE..]
+usage: edits.py [--anew] [--every] [--jobs N] [CRATE..]
   --anew      tries also what an earlier run settled
+  --every     tries those of private functions too, over all crates
   --jobs N    so many checks at a time, of one job each; else as many as there are processors. They
               are fewer where the memory holds no more
 """
@@ -63,7 +66,8 @@ from proved import made_of
 ROOM = os.path.join(tempfile.gettempdir(), "edits-%d-%s" % (os.getuid(), sum_of(ROOT)[:12]))
 # Counted up where an edit may be judged otherwise than before: what was kept is tried again then.
 JUDGEMENT = 2
-TRIED = ("must-fail", "edits")
+EDITS = "edits"
+TRIED = ("must-fail", EDITS)
 # So many of the dearest edits are told.
 DEAREST = 12
 
@@ -76,13 +80,14 @@ class Trial:
     # Whether most of them may be proved, so that what a run leaves open is tried together again.
     are_proved = False
 
-    def __init__(self, name, listed, version, anew):
+    def __init__(self, name, listed, version, choice):
         self.name, self.seed = name, os.path.join(ROOM, name, "seed")
+        self.is_whole, self.left_out = choice.is_whole, 0
         # The copy that each run begins with.
         self.folder = os.path.join(self.seed, "crates", name)
         self.names = [*listed.below(name), name]
         self.lines = [listed.lines[it] for it in self.names]
-        self.settled = Settled(name, self.names, [JUDGEMENT, version, *self.lines], anew)
+        self.settled = Settled(name, self.names, [JUDGEMENT, version, *self.lines], choice.anew)
         self.lock, self.rooms = threading.Lock(), set()
         self.told, self.passed, self.failed = [], 0, 0
         # The processor seconds that each edit took, but for what a check begins with.
@@ -97,7 +102,17 @@ class Trial:
             top = os.path.join(CRATES, self.name, part)
             names = sorted(os.listdir(top)) if os.path.isdir(top) else []
             files = [os.path.join(top, it) for it in names if not it.endswith(".md")]
-            yield from (Edit(it) for it in files if os.path.isfile(it))
+            edits = [Edit(it) for it in files if os.path.isfile(it)]
+            chosen = [it for it in edits if part != EDITS or self.is_whole or self.is_seen(it)]
+            self.left_out += len(edits) - len(chosen)
+            yield from chosen
+
+    def is_seen(self, edit):
+        """Whether the edit changes what is seen from outside. One that cannot be applied may."""
+        with contextlib.suppress(Unfit):
+            edit.look(os.path.join(CRATES, self.name))
+            return edit.is_seen()
+        return True
 
     def is_open(self, edit):
         """Whether no earlier run settled it. What one settled is counted, and told again."""
@@ -322,19 +337,26 @@ class Lanes:
             trial.end()
 
 
-def options(words, listed):
-    """Whether all are tried, how many checks at a time, and the names of the crates."""
-    anew, lanes = "--anew" in words, len(os.sched_getaffinity(0))
-    words = [it for it in words if it != "--anew"]
-    if "--jobs" in words:
-        at = words.index("--jobs")
-        if not re.fullmatch("[1-9][0-9]?", "".join(words[at + 1 : at + 2])):
-            sys.exit(__doc__)
-        lanes, words = int(words[at + 1]), words[:at] + words[at + 2 :]
-    lacking = [it for it in words if it not in listed.lines]
-    if lacking:
-        sys.exit("%s: crates.txt lists no such crate\n\n%s" % (lacking[0], __doc__))
-    return anew, lanes, words or list(listed.lines)
+class Choice:
+    """Which edits are tried, and how many checks at a time, by the words of a call."""
+
+    def __init__(self, names, anew=False, is_whole=True, lanes=1):
+        # Whether also what was settled, and also those of private functions.
+        self.names, self.anew, self.is_whole, self.lanes = names, anew, is_whole, lanes
+
+    @classmethod
+    def of(cls, words, listed):
+        anew, every, lanes = "--anew" in words, "--every" in words, len(os.sched_getaffinity(0))
+        words = [it for it in words if it not in ("--anew", "--every")]
+        if "--jobs" in words:
+            at = words.index("--jobs")
+            if not re.fullmatch("[1-9][0-9]?", "".join(words[at + 1 : at + 2])):
+                sys.exit(__doc__)
+            lanes, words = int(words[at + 1]), words[:at] + words[at + 2 :]
+        lacking = [it for it in words if it not in listed.lines]
+        if lacking:
+            sys.exit("%s: crates.txt lists no such crate\n\n%s" % (lacking[0], __doc__))
+        return cls(words or list(listed.lines), anew, every or bool(words), lanes)
 
 
 def used():
@@ -343,8 +365,8 @@ def used():
     return (found.children_user + found.children_system) / 60
 
 
-def tried(names, listed, anew, lanes, kind=Trial):
-    """Tries the edits of these crates. Gives the trials, which are of this kind."""
+def tried(listed, choice, kind=Trial):
+    """Tries the edits that are chosen. Gives the trials, which are of this kind."""
     version = subprocess.run(["rt", "version"], capture_output=True, text=True, check=True).stdout
     os.makedirs(KEPT, exist_ok=True)
     with open(os.path.join(KEPT, "lock"), "w", encoding="utf-8") as lock:
@@ -353,9 +375,9 @@ def tried(names, listed, anew, lanes, kind=Trial):
         shutil.rmtree(ROOM, ignore_errors=True)
         os.makedirs(ROOM, 0o700)
         try:
-            trials = [kind(name, listed, version, anew) for name in names]
+            trials = [kind(name, listed, version, choice) for name in choice.names]
             is_open = [it for it in trials if it.edits]
-            made = Lanes(is_open, lanes)
+            made = Lanes(is_open, choice.lanes)
             made.make()
             if made.libraries.minutes:
                 print("the libraries: %.1f processor minutes" % made.libraries.minutes, flush=True)
@@ -376,15 +398,18 @@ def tell_dearest(took):
 
 def main(words):
     listed = Listed()
-    anew, lanes, names = options(words, listed)
+    choice = Choice.of(words, listed)
     signal.signal(signal.SIGTERM, lambda *_: sys.exit(143))
     try:
-        trials = tried(names, listed, anew, lanes)
+        trials = tried(listed, choice)
     except KeyboardInterrupt:
         return 130
     tell_dearest([it for trial in trials for it in trial.took.items()])
     own = sum(it.own for it in trials) / 60
     print("%.1f processor minutes, %.1f of them for the crates' own proofs" % (used(), own))
+    left_out = sum(it.left_out for it in trials)
+    if left_out:
+        print("%d edits of private functions are left out: --every tries them too" % left_out)
     failed = sum(it.failed for it in trials)
     print("%d passed, %d failed" % (sum(it.passed for it in trials), failed))
     return 1 if failed else 0

@@ -64,7 +64,7 @@ def proved(plants, lanes):
     """What the prover has against each plant: nothing, where its crate is still proved with it."""
     listed, told = Listed(), {}
     names = sorted({it.home for it in plants if it.is_of_a_crate})
-    for trial in edits.tried(names, listed, False, lanes, Plants):
+    for trial in edits.tried(listed, edits.Choice(names, lanes=lanes), Plants):
         for plant in (it for it in plants if it.home == trial.name):
             why = trial.settled.why(plant)
             told[plant] = {edits.PROVED: "", "": REFUSED, None: NO_VERDICT}.get(why, why)

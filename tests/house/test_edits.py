@@ -101,8 +101,8 @@ FAIL = ("does_not_compile", "same", "nowhere", "twice")
 
 
 class Tried:
-    """A repository with the crate, where `make edits` is called twice: with all edits, and then
-    with those that are to be refused."""
+    """A repository with the crate, where `make edits` is called with all edits, then with those
+    that are to be refused, and at last over all crates."""
 
     made, making = None, threading.Lock()
 
@@ -124,7 +124,8 @@ class Tried:
             for name in EDITS:
                 if name.endswith(FAIL):
                     os.remove(os.path.join(self.top, "crates", "sums", name + ".edit"))
-            self.refused = self.make("edits")
+            self.refused = self.make("edits", "EVERY=1")
+            self.seen = self.make("edits")
             self.words = self.make("-n", "edits", "ANEW=1", "CRATES=sums")
 
     @classmethod
@@ -267,13 +268,23 @@ def test_copied_proof():
         ], "their heads"
 
 
+# What a run tells that has nothing to try.
+NOTHING = "0.0 processor minutes, 0.0 of them for the crates' own proofs"
+
+
 @sentence("edits that are settled are not tried again")
 def test_settled():
-    took = "0.0 processor minutes, 0.0 of them for the crates' own proofs"
-    told = [took, "5 passed, 0 failed"]
-    assert Tried.once().refused == (0, told), "the second run"
+    assert Tried.once().refused == (0, [NOTHING, "5 passed, 0 failed"]), "the second run"
     status, lines = Tried.once().words
     assert (status, lines[0].split()) == (0, ["tools/edits.py", "--anew", "sums"]), "its words"
+
+
+@sentence("over all crates those of private functions are left out")
+def test_left_out():
+    """That of a constant is tried, and that of must-fail/."""
+    left_out = "3 edits of private functions are left out: --every tries them too"
+    told = [NOTHING, left_out, "2 passed, 0 failed"]
+    assert Tried.once().seen == (0, told), "the last run"
 
 
 def with_library(top):

@@ -56,7 +56,7 @@ ci)
     while [ -e "$CALLED/first" ] && [ "$(grep -c '^ci$' "$CALLED/called")" -lt 2 ]; do
         sleep 0.1
     done
-    for name in explain_cases line_cases port_cases ymodem; do
+    for name in line_cases port_cases ymodem; do
         mkdir -p "crates/$name/out" && cp "$YMODEM" "crates/$name/out/$name"
         echo "rt: $name proved"
     done
