@@ -15,7 +15,7 @@ STATE = re.compile(r"^fn (\S+): (.*)$", re.M)
 FAULT = re.compile(
     r"^(?:\./)?proofs/(\S+)/(?:Answers|Proof|Invariants)\.antt:\d+:\d+: error: (.*)$", re.M
 )
-VERDICT = re.compile(r"^(logic=|rattle: no verdict)", re.M)
+VERDICT = re.compile(r"^(logic=|only=\d|rattle: no verdict)", re.M)
 # The crate does not compile, or a text of src/ or specs/ is no statement: where it is only false,
 # the error names what it stands in.
 UNREAD = re.compile(
@@ -81,18 +81,19 @@ def shared_out(seconds, heard):
 
 
 class Checked:
-    """A check of the crate in this folder, by one job: its status, what it said, and the processor
-    seconds that it took, in all and for each function."""
+    """A check of the crate in this folder, or of these functions alone, by one job: its status, what
+    it said, and the processor seconds that it took, in all and for each function."""
 
     running, is_over = set(), False
 
-    def __init__(self, folder):
+    def __init__(self, folder, functions=()):
         if self.is_over:
             raise SystemExit
         how = {"stdin": subprocess.DEVNULL, "stdout": subprocess.PIPE, "stderr": subprocess.STDOUT}
         how |= {"text": True, "errors": "replace"}
         heard = [(time.monotonic(), "")]
-        child = subprocess.Popen([*RT, "check", "--jobs", "1"], cwd=folder, **how)
+        only = [word for name in functions for word in ("--only", name)]
+        child = subprocess.Popen([*RT, "check", "--jobs", "1", *only], cwd=folder, **how)
         self.running.add(child)
         with child.stdout:
             heard += [(time.monotonic(), line) for line in child.stdout]

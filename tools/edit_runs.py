@@ -33,7 +33,8 @@ class Run:
         with self.trial.room() as folder:
             for path, text in self.texts.items():
                 write(os.path.join(folder, path), text)
-            return Checked(folder)
+            # What it changes is judged by what is said of these, where it names them.
+            return Checked(folder, self.edits[0].laws if self.edits[0].is_alone else ())
 
     def begin(self):
         """Makes the check, and judges the edits. Gives the runs that what is open needs."""
@@ -49,7 +50,8 @@ class Run:
         for edit in self.edits:
             self.trial.note(edit, seconds if is_alone else ran.seconds_of(edit.names))
         if is_alone:
-            self.trial.settle(self.edits[0], *judged(self.edits[0], ran.status, said))
+            verdict = judged(self.trial.name, self.edits[0], ran.status, said)
+            self.trial.settle(self.edits[0], *verdict)
             return []
         if ran.status == 0:
             # Each function is proved by itself, by the contracts of those that it calls.
@@ -81,10 +83,11 @@ class Run:
         return self.trial.together(waiting) + alone
 
 
-def judged(edit, status, said):
+def judged(crate, edit, status, said):
     """Why an edit fails that was tried alone, or no word where it does not; and whether the next
     run would find the same."""
-    is_own = said.refuses(edit.names) or not edit.functions
+    laws = ["%s::%s" % (crate, it) for it in edit.laws]
+    is_own = said.refuses(edit.names) or not edit.functions and not laws or said.refuses(laws)
     if status == 0:
         return PROVED, True
     if said.is_unread(status):
@@ -92,7 +95,8 @@ def judged(edit, status, said):
     if status == 1 and is_own:
         return "", True
     if status == 1:
-        names, others = " and ".join(sorted(edit.names)), ", ".join(said.refused()[:3])
+        names = " and ".join(sorted(edit.names) or laws)
+        others = ", ".join(said.refused()[:3])
         return "not its own: %s: not refused; refused: %s" % (names, others or "no function"), True
     if status == 3:
         return "no verdict: %s" % said.first_error(), True

@@ -2,6 +2,7 @@
 
 An edit is a file with a line `file: src/lib.rt`, and pairs of lines `old: TEXT` and `new: TEXT`.
 Each old text stands in that file exactly once. Further pairs apply to what the earlier ones made.
+One of a definition may have a line `refuses: laws::LAW`: the function that has to be refused for it.
 
 The prover tells a verdict of each function, by a name: `crate::module::function`, and for a method
 `crate::module::Type::method`, where the module is the type's own. A trait's method has the part
@@ -26,6 +27,7 @@ TOKEN = re.compile(
 )
 # What stands ahead of the braces of a clause, between a function's head and its body.
 CLAUSE = re.compile(r"\b(requires|ensures|ghost)\b[^{}]*$")
+REFUSES = re.compile(r"^refuses: (.*)$", re.M)
 # What other crates can call.
 PUBLIC = re.compile(r"\bpub\s+((const|unsafe|extern|\"C\")\s+)*fn\s+\w+\Z")
 CYCLE = re.compile(r"#\s*\[\s*cycle\s*\(\s*(\w+)\s*\)")
@@ -56,6 +58,8 @@ class Edit:
         # What look() finds: the functions, whether others may be judged otherwise for it, and what
         # it makes of the one function whose copy can have it too.
         self.functions, self.is_alone, self.changes, self.names = [], False, None, set()
+        # The functions that are to be refused for an edit of a definition, by their paths.
+        self.laws = [it.strip() for it in REFUSES.findall(self.text)]
 
     def pairs(self):
         path, old = "", None

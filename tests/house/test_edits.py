@@ -89,6 +89,8 @@ EDITS = {
     "must-fail/next.same": ("let sum = n + 1;", "let sum = 1 + n;"),
     "must-fail/second.one_step": ("next(first)", "first"),
     "edits/constant": ("u8 = 3", "u8 = 4"),
+    "edits/constant.more": ("u8 = 3", "u8 = 5\nrefuses: third"),
+    "edits/constant.of_another.same": ("u8 = 3", "u8 = 2\nrefuses: second"),
     "edits/next.two_steps": ("let sum = n + 1;", "let sum = n + 2;"),
     "edits/second.same": ("let first = next(n);", "let first = n + 1;"),
     "edits/fourth.less": ("    n + 4", "    n + 3"),
@@ -167,8 +169,14 @@ def test_two_of_one_function():
     """The one that fails is told, and the other one is counted as passed."""
     status, lines = Tried.once().all
     assert status == 2, "its status"
-    assert lines[-1] == "5 passed, 6 failed", "its last line"
-    assert sum(it.startswith("FAILED") for it in lines) == 6, "its failures"
+    assert lines[-1] == "6 passed, 7 failed", "its last line"
+    assert sum(it.startswith("FAILED") for it in lines) == 7, "its failures"
+
+
+@sentence("an edit of a constant, where the function that it names is proved")
+def test_law():
+    """It says which one has to be refused. Another one is."""
+    fails("edits/constant.of_another.same", "still proved")
 
 
 @sentence("edits that cannot be applied")
@@ -199,7 +207,7 @@ def test_copies():
 def test_in_place():
     """Those whose copies are proved; and the one that does not compile. That of a constant is tried
     alone."""
-    wanted = ["run 1 of 1, 3 edits", "run 1 of 2, 1 edit", "run 2 of 2, 1 edit"]
+    wanted = ["run 1 of 1, 3 edits", *("run %d of 4, 1 edit" % it for it in (1, 2, 3, 4))]
     assert runs_of("run") == wanted, "its runs"
 
 
@@ -208,7 +216,7 @@ def test_dearest():
     """Of those that could be tried, the dearest first."""
     lines = Tried.once().all[1]
     at = next(it for it, line in enumerate(lines) if "; the dearest:" in line)
-    assert re.match(r"9 edits took \d+ processor seconds; ", lines[at]), lines[at]
+    assert re.match(r"11 edits took \d+ processor seconds; ", lines[at]), lines[at]
     told = [re.fullmatch(r" *(\d+\.\d)  sums/(.*)\.edit", it) for it in lines[at + 1 :]]
     took = [float(it[1]) for it in told if it]
     assert took == sorted(took, reverse=True) and 0 < took[0], "what they took: %s" % took
@@ -274,7 +282,7 @@ NOTHING = "0.0 processor minutes, 0.0 of them for the crates' own proofs"
 
 @sentence("edits that are settled are not tried again")
 def test_settled():
-    assert Tried.once().refused == (0, [NOTHING, "5 passed, 0 failed"]), "the second run"
+    assert Tried.once().refused == (0, [NOTHING, "6 passed, 0 failed"]), "the second run"
     status, lines = Tried.once().words
     assert (status, lines[0].split()) == (0, ["tools/edits.py", "--anew", "sums"]), "its words"
 
@@ -283,7 +291,7 @@ def test_settled():
 def test_left_out():
     """That of a constant is tried, and that of must-fail/."""
     left_out = "3 edits of private functions are left out: --every tries them too"
-    told = [NOTHING, left_out, "2 passed, 0 failed"]
+    told = [NOTHING, left_out, "3 passed, 0 failed"]
     assert Tried.once().seen == (0, told), "the last run"
 
 
