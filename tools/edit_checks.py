@@ -81,8 +81,8 @@ def shared_out(seconds, heard):
 
 
 class Checked:
-    """A check of the crate in this folder, or of these functions alone, by one job: its status, what
-    it said, and the processor seconds that it took, in all and for each function."""
+    """A check of the crate in this folder, or of these functions of it, by one job: its status,
+    what it said, and the processor seconds that it took, in all and for each function."""
 
     running, is_over = set(), False
 

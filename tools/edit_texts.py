@@ -2,7 +2,7 @@
 
 An edit is a file with a line `file: src/lib.rt`, and pairs of lines `old: TEXT` and `new: TEXT`.
 Each old text stands in that file exactly once. Further pairs apply to what the earlier ones made.
-One of a definition may have a line `refuses: laws::LAW`: the function that has to be refused for it.
+One of a definition may have a line `refuses: laws::LAW`, the function that is to be refused for it.
 
 The prover tells a verdict of each function, by a name: `crate::module::function`, and for a method
 `crate::module::Type::method`, where the module is the type's own. A trait's method has the part

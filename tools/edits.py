@@ -271,8 +271,8 @@ def free_memory():
 
 
 class Lanes:
-    """The proofs of libraries and the runs of trials, side by side, by one job each: a second job of
-    a proof costs processor time, and there is enough else to do.
+    """The proofs of libraries and the runs of trials, side by side, by one job each: a second job
+    of a proof costs processor time, and there is enough else to do.
 
     Libraries go ahead, the one first that begins the longest row of crates. The runs of a crate
     begin once its library is there, those of the dearest crate first."""

@@ -172,7 +172,7 @@ class Libraries:
         return begun + [(name, (idle + at) // count) for at, name in enumerate(ready[:count])]
 
     def ready(self, left, going):
-        """Those of the crates that are left that wait for none of these, nor for one that goes on."""
+        """Those of the crates that are left which wait for none of these or of those going on."""
         waits = {*left, *going}
         return [name for name in left if waits.isdisjoint(self.used[name])]
 
