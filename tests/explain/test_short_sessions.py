@@ -8,6 +8,7 @@ worked out by hand.
 """
 
 import os
+import re
 import tempfile
 
 from support.cases import case, cases, sentence
@@ -15,8 +16,9 @@ from support.explained import explained
 from support.program import ROOT
 
 TABLE = os.path.join(ROOT, "tests", "explain", "short_sessions")
-# Where the record can be read so far alone, what was told ends in why.
+# Where a record cannot be read on, what is told of it ends in why.
 FAULT = "fault: "
+NO_RECORD = re.compile(r".* is no record: (.*); its lines are .*\n")
 
 
 def digits_of(piece):
@@ -52,9 +54,12 @@ def told(record):
             it.write(record)
         ended = explained(path)
     lines = ended.stdout.splitlines()
-    assert bool(ended.returncode) == bool(ended.stderr), "status %d" % ended.returncode
-    why = ended.stderr.strip().removeprefix(path + ": ")
-    return [*lines, FAULT + why] if why else lines
+    if not ended.returncode:
+        assert not ended.stderr, "it tells %r" % ended.stderr
+        return lines
+    why = NO_RECORD.fullmatch(ended.stderr)
+    assert why, "status %d: %r" % (ended.returncode, ended.stderr)
+    return [*lines, FAULT + why[1]]
 
 
 @cases(*(case("a short session: " + name, pieces, lines) for name, pieces, lines in table()))
