@@ -11,7 +11,7 @@
 #                        page, and the program that it proved on sockets and files
 # make memory            each growth of memory refused in turn, alone
 # make edits             tries the edits of the crates, many in a check; the gate tries a few of
-#                        them. Those of private functions it tries where CRATES="A B" names their
+#                        them. Those that take long are tried where CRATES="A B" names their
 #                        crates, or EVERY=1 asks for all. ANEW=1 takes also what was settled
 # make plants            plants wrong bodies that no contract refuses, and tells for each by which
 #                        test it is caught (docs/plants.md). CRATES="A B" takes those of these

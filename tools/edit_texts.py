@@ -3,6 +3,7 @@
 An edit is a file with a line `file: src/lib.rt`, and pairs of lines `old: TEXT` and `new: TEXT`.
 Each old text stands in that file exactly once. Further pairs apply to what the earlier ones made.
 One of a definition may have a line `refuses: laws::LAW`, the function that is to be refused for it.
+One with a line `takes: long` is tried where its crate is named.
 
 The prover tells a verdict of each function, by a name: `crate::module::function`, and for a method
 `crate::module::Type::method`, where the module is the type's own. A trait's method has the part
@@ -28,8 +29,7 @@ TOKEN = re.compile(
 # What stands ahead of the braces of a clause, between a function's head and its body.
 CLAUSE = re.compile(r"\b(requires|ensures|ghost)\b[^{}]*$")
 REFUSES = re.compile(r"^refuses: (.*)$", re.M)
-# What other crates can call.
-PUBLIC = re.compile(r"\bpub\s+((const|unsafe|extern|\"C\")\s+)*fn\s+\w+\Z")
+LONG = re.compile(r"^takes: long$", re.M)
 CYCLE = re.compile(r"#\s*\[\s*cycle\s*\(\s*(\w+)\s*\)")
 
 
@@ -60,6 +60,7 @@ class Edit:
         self.functions, self.is_alone, self.changes, self.names = [], False, None, set()
         # The functions that are to be refused for an edit of a definition, by their paths.
         self.laws = [it.strip() for it in REFUSES.findall(self.text)]
+        self.is_long = bool(LONG.search(self.text))
 
     def pairs(self):
         path, old = "", None
@@ -119,11 +120,6 @@ class Edit:
         """The prover's names of the functions that it changes."""
         return {name for it in self.functions for name in it.names(crate, told)}
 
-    def is_seen(self):
-        """Whether what it changes is seen from outside: a public function, one of a trait, or a
-        definition."""
-        return not self.functions or any(it.is_public or it.is_of_trait for it in self.functions)
-
     def places(self):
         """The functions that it changes, each with its file."""
         return zip((path for path, _, _ in self.pairs()), self.functions)
@@ -166,7 +162,6 @@ class Function:
         self.named, self.is_of_trait = start + len(head), is_of_trait
         modules = [it for it in path[:-1] if isinstance(it, str)]
         cycle = CYCLE.search(head)
-        self.is_public = bool(PUBLIC.search(head))
         # Functions that call one another have one proof.
         self.cycle = [*modules, "+" + cycle[1]] if cycle else []
         self.is_const = bool(re.search(r"\bconst\b", head[: head.rfind("fn ")]))

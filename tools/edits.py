@@ -1,8 +1,7 @@
 #!/usr/bin/env python3
 """Tries the edits of the crates, those of must-fail/ and those of edits/: with each the prover has
 to refuse the function that it changes. Of crates that are named all edits are tried. Over all
-crates those of private functions in edits/ are left out: what others can rely on are the contracts
-of public functions, those of traits, and definitions.
+crates those are left out that say that they take long.
 
 The prover tells a verdict of each function, so many edits share one check. Most are tried on copies
 of their functions, all at once (edit_copies.py). The others are made where the functions stand, one
@@ -34,7 +33,7 @@ its own is there. A crate whose library is there needs no other proof.
 
 usage: edits.py [--anew] [--every] [--jobs N] [CRATE..]
   --anew      tries also what an earlier run settled
-  --every     tries those of private functions too, over all crates
+  --every     tries those that take long too, over all crates
   --jobs N    so many checks at a time, of one job each; else as many as there are processors. They
               are fewer where the memory holds no more
 """
@@ -66,8 +65,7 @@ from proved import made_of
 ROOM = os.path.join(tempfile.gettempdir(), "edits-%d-%s" % (os.getuid(), sum_of(ROOT)[:12]))
 # Counted up where an edit may be judged otherwise than before: what was kept is tried again then.
 JUDGEMENT = 2
-EDITS = "edits"
-TRIED = ("must-fail", EDITS)
+TRIED = ("must-fail", "edits")
 # So many of the dearest edits are told.
 DEAREST = 12
 
@@ -103,16 +101,9 @@ class Trial:
             names = sorted(os.listdir(top)) if os.path.isdir(top) else []
             files = [os.path.join(top, it) for it in names if not it.endswith(".md")]
             edits = [Edit(it) for it in files if os.path.isfile(it)]
-            chosen = [it for it in edits if part != EDITS or self.is_whole or self.is_seen(it)]
+            chosen = [it for it in edits if self.is_whole or not it.is_long]
             self.left_out += len(edits) - len(chosen)
             yield from chosen
-
-    def is_seen(self, edit):
-        """Whether the edit changes what is seen from outside. One that cannot be applied may."""
-        with contextlib.suppress(Unfit):
-            edit.look(os.path.join(CRATES, self.name))
-            return edit.is_seen()
-        return True
 
     def is_open(self, edit):
         """Whether no earlier run settled it. What one settled is counted, and told again."""
@@ -341,7 +332,7 @@ class Choice:
     """Which edits are tried, and how many checks at a time, by the words of a call."""
 
     def __init__(self, names, anew=False, is_whole=True, lanes=1):
-        # Whether also what was settled, and also those of private functions.
+        # Whether also what was settled, and also those that take long.
         self.names, self.anew, self.is_whole, self.lanes = names, anew, is_whole, lanes
 
     @classmethod
@@ -409,7 +400,7 @@ def main(words):
     print("%.1f processor minutes, %.1f of them for the crates' own proofs" % (used(), own))
     left_out = sum(it.left_out for it in trials)
     if left_out:
-        print("%d edits of private functions are left out: --every tries them too" % left_out)
+        print("%d that take long were left out: --every tries them too" % left_out)
     failed = sum(it.failed for it in trials)
     print("%d passed, %d failed" % (sum(it.passed for it in trials), failed))
     return 1 if failed else 0

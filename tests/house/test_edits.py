@@ -91,7 +91,7 @@ EDITS = {
     "edits/constant": ("u8 = 3", "u8 = 4"),
     "edits/constant.more": ("u8 = 3", "u8 = 5\nrefuses: third"),
     "edits/constant.of_another.same": ("u8 = 3", "u8 = 2\nrefuses: second"),
-    "edits/next.two_steps": ("let sum = n + 1;", "let sum = n + 2;"),
+    "edits/next.two_steps": ("let sum = n + 1;", "let sum = n + 2;\ntakes: long"),
     "edits/second.same": ("let first = next(n);", "let first = n + 1;"),
     "edits/fourth.less": ("    n + 4", "    n + 3"),
     "edits/fourth.same": ("    n + 4", "    4 + n"),
@@ -287,11 +287,11 @@ def test_settled():
     assert (status, lines[0].split()) == (0, ["tools/edits.py", "--anew", "sums"]), "its words"
 
 
-@sentence("over all crates those of private functions are left out")
+@sentence("over all crates those that take long are left out")
 def test_left_out():
-    """That of a constant is tried, and that of must-fail/."""
-    left_out = "3 edits of private functions are left out: --every tries them too"
-    told = [NOTHING, left_out, "3 passed, 0 failed"]
+    """They are tried where their crate is named."""
+    left_out = "1 that take long were left out: --every tries them too"
+    told = [NOTHING, left_out, "5 passed, 0 failed"]
     assert Tried.once().seen == (0, told), "the last run"
 
 

@@ -1,4 +1,4 @@
-"""Scripts, and what `ymodem play` makes of each.
+r"""Scripts, and what `ymodem play` makes of each.
 
 The table `scripts` beside this file has each script on a line, behind a sign, and in the lines
 below it what was worked out by hand of what comes of it:
@@ -7,7 +7,7 @@ below it what was worked out by hand of what comes of it:
 - of `$` the status, the number of rounds, and what stands behind these;
 - of `?`, on its own line, that it is read, or why it is not.
 
-In a script `\\n`, `\\r`, `\\t`, `\\s` and `\\x` stand for the end of a line, a return, a tab, a space
+In a script `\n`, `\r`, `\t`, `\s` and `\x` stand for the end of a line, a return, a tab, a space
 and the byte FF, and `{N*TEXT}` for N times the text.
 """
 
