@@ -6,8 +6,9 @@ crates those are left out that say that they take long.
 The prover tells a verdict of each function, so many edits share one check. Most are tried on copies
 of their functions, all at once (edit_copies.py). The others are made where the functions stand, one
 of each function at a time: those of functions of traits, those of several functions, and what the
-copies leave open. An edit of anything but a function's body is tried alone. A function is refused
-by itself where the prover finds a fault in its own proof, and not only in a function that it calls.
+copies leave open. An edit of anything but a function's body is tried alone. Where it names the law
+that has to be refused for it, that one is checked and no other function. A function is refused by
+itself where the prover finds a fault in its own proof, and not only in a function that it calls.
 What a shared check leaves open is tried again, at last alone, so that what is told of an edit is
 about that edit. An edit fails that is
 
