@@ -8,39 +8,29 @@ use ym_header::HeaderFault;
 use ym_link::{RecvState, SendState};
 
 /// How a sender has ended, by its name in a trace.
-#[derive(Clone, Copy)]
-struct SendWord(SendState);
-
-impl fmt::Display for SendWord {
-    ghost output = { λ word. Some (send_text word.0) };
-
-    fn fmt<W: fmt::Write>(&self, f: &mut fmt::Formatter<W>) -> fmt::Result {
-        match self.0 {
-            SendState::Running => write!(f, "running"),
-            SendState::Finished => write!(f, "finished"),
-            SendState::NoReply => write!(f, "no-reply"),
-            SendState::Cancelled => write!(f, "cancelled"),
-            SendState::SourceFailed => write!(f, "source-failed"),
-        }
+fn send_word(state: SendState) -> &'static str
+    ensures { result.now ≡ send_text state }
+{
+    match state {
+        SendState::Running => "running",
+        SendState::Finished => "finished",
+        SendState::NoReply => "no-reply",
+        SendState::Cancelled => "cancelled",
+        SendState::SourceFailed => "source-failed",
     }
 }
 
 /// A fault of a header, by its name in a trace.
-#[derive(Clone, Copy)]
-struct FaultWord(HeaderFault);
-
-impl fmt::Display for FaultWord {
-    ghost output = { λ word. Some (fault_text word.0) };
-
-    fn fmt<W: fmt::Write>(&self, f: &mut fmt::Formatter<W>) -> fmt::Result {
-        match self.0 {
-            HeaderFault::NameEmpty => write!(f, "name-empty"),
-            HeaderFault::NameLong => write!(f, "name-long"),
-            HeaderFault::NameUnsafe => write!(f, "name-unsafe"),
-            HeaderFault::NoLength => write!(f, "no-length"),
-            HeaderFault::LengthLarge => write!(f, "length-large"),
-            HeaderFault::Memory => write!(f, "memory"),
-        }
+fn fault_word(fault: HeaderFault) -> &'static str
+    ensures { result.now ≡ fault_text fault }
+{
+    match fault {
+        HeaderFault::NameEmpty => "name-empty",
+        HeaderFault::NameLong => "name-long",
+        HeaderFault::NameUnsafe => "name-unsafe",
+        HeaderFault::NoLength => "no-length",
+        HeaderFault::LengthLarge => "length-large",
+        HeaderFault::Memory => "memory",
     }
 }
 
@@ -53,17 +43,17 @@ impl fmt::Display for RecvWords {
 
     fn fmt<W: fmt::Write>(&self, f: &mut fmt::Formatter<W>) -> fmt::Result {
         match self.0 {
-            RecvState::Running => write!(f, "running"),
-            RecvState::Finished => write!(f, "finished"),
-            RecvState::TooManyErrors => write!(f, "too-many-errors"),
-            RecvState::Cancelled => write!(f, "cancelled"),
-            RecvState::OutOfStep => write!(f, "out-of-step"),
+            RecvState::Running => f.write_str("running"),
+            RecvState::Finished => f.write_str("finished"),
+            RecvState::TooManyErrors => f.write_str("too-many-errors"),
+            RecvState::Cancelled => f.write_str("cancelled"),
+            RecvState::OutOfStep => f.write_str("out-of-step"),
             RecvState::BadHeader(fault) => {
-                let word = FaultWord(fault);
+                let word = fault_word(fault);
                 write!(f, "bad-header {word}")
             }
-            RecvState::TooManyFiles => write!(f, "too-many-files"),
-            RecvState::SinkFailed => write!(f, "sink-failed"),
+            RecvState::TooManyFiles => f.write_str("too-many-files"),
+            RecvState::SinkFailed => f.write_str("sink-failed"),
         }
     }
 }
@@ -82,7 +72,7 @@ impl fmt::Display for SenderLine {
 
     fn fmt<W: fmt::Write>(&self, f: &mut fmt::Formatter<W>) -> fmt::Result {
         let done = self.done;
-        let state = SendWord(self.state);
+        let state = send_word(self.state);
         write!(f, "sender done {done} {state}")
     }
 }

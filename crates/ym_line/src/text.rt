@@ -6,25 +6,19 @@ ghost use Rattle.ym_line.specs.TraceText.{reply_text, round_line, sender_line, r
 use crate::lines::{ReceiverLine, SenderLine};
 use crate::trace::{Seen, Trace};
 use std::alloc::{AllocError, Global};
-use std::fmt;
 use ym_frame::Reply;
 
 /// A reply, by its names in a trace.
-#[derive(Clone, Copy)]
-struct ReplyWords(Reply);
-
-impl fmt::Display for ReplyWords {
-    ghost output = { λ words. Some (reply_text words.0) };
-
-    fn fmt<W: fmt::Write>(&self, f: &mut fmt::Formatter<W>) -> fmt::Result {
-        match self.0 {
-            Reply::Silence => write!(f, "-"),
-            Reply::Start => write!(f, "C"),
-            Reply::Ack => write!(f, "ACK"),
-            Reply::AckStart => write!(f, "ACK C"),
-            Reply::Nak => write!(f, "NAK"),
-            Reply::Cancel => write!(f, "CAN"),
-        }
+fn reply_words(reply: Reply) -> &'static str
+    ensures { result.now ≡ reply_text reply }
+{
+    match reply {
+        Reply::Silence => "-",
+        Reply::Start => "C",
+        Reply::Ack => "ACK",
+        Reply::AckStart => "ACK C",
+        Reply::Nak => "NAK",
+        Reply::Cancel => "CAN",
     }
 }
 
@@ -39,7 +33,7 @@ fn push_round(text: &mut String, n: usize, seen: &Seen) -> Result<(), AllocError
         reply,
         back,
     } = *seen;
-    let reply = ReplyWords(reply);
+    let reply = reply_words(reply);
     writeln!(text, "{n} > {what} {there} < {reply} {back}")
 }
 

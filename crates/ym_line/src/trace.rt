@@ -52,10 +52,10 @@ impl fmt::Display for What {
 
     fn fmt<W: fmt::Write>(&self, f: &mut fmt::Formatter<W>) -> fmt::Result {
         match self {
-            What::Nothing => write!(f, "-"),
+            What::Nothing => f.write_str("-"),
             What::Block { number, length } => write!(f, "block {number} {length}"),
-            What::Eot => write!(f, "eot"),
-            What::Can => write!(f, "can"),
+            What::Eot => f.write_str("eot"),
+            What::Can => f.write_str("can"),
         }
     }
 }
@@ -85,11 +85,11 @@ impl fmt::Display for How {
     ghost output = { λ how. Some (how_text how) };
 
     fn fmt<W: fmt::Write>(&self, f: &mut fmt::Formatter<W>) -> fmt::Result {
-        match self {
-            How::Whole => write!(f, "whole"),
-            How::Lost => write!(f, "lost"),
-            How::Damaged => write!(f, "damaged"),
-        }
+        f.write_str(match self {
+            How::Whole => "whole",
+            How::Lost => "lost",
+            How::Damaged => "damaged",
+        })
     }
 }
 
