@@ -35,15 +35,15 @@ impl fmt::Display for CommandFault {
     ghost output = { λ fault. Some (fault_words fault) };
 
     fn fmt<W: fmt::Write>(&self, f: &mut fmt::Formatter<W>) -> fmt::Result {
-        match self {
-            CommandFault::Port => write!(f, "fault: port"),
-            CommandFault::Name => write!(f, "fault: name"),
-            CommandFault::Length => write!(f, "fault: length"),
-            CommandFault::TooManyFiles => write!(f, "fault: too many files"),
-            CommandFault::Closed => write!(f, "fault: closed"),
-            CommandFault::Device => write!(f, "fault: device"),
-            CommandFault::Memory => write!(f, "fault: memory"),
-        }
+        f.write_str(match self {
+            CommandFault::Port => "fault: port",
+            CommandFault::Name => "fault: name",
+            CommandFault::Length => "fault: length",
+            CommandFault::TooManyFiles => "fault: too many files",
+            CommandFault::Closed => "fault: closed",
+            CommandFault::Device => "fault: device",
+            CommandFault::Memory => "fault: memory",
+        })
     }
 }
 

@@ -16,7 +16,7 @@ impl fmt::Display for Octal {
     fn fmt<W: fmt::Write>(&self, f: &mut fmt::Formatter<W>) -> fmt::Result {
         match self.0 {
             Some(number) => write!(f, "{number:o}"),
-            None => write!(f, "-"),
+            None => f.write_str("-"),
         }
     }
 }
