@@ -164,14 +164,17 @@ impl fmt::Display for Act {
 
     fn fmt<W: fmt::Write>(&self, f: &mut fmt::Formatter<W>) -> fmt::Result {
         match *self {
-            Act::Nothing => f.write_str("nothing"),
-            Act::Header => f.write_str("block 0"),
+            Act::Nothing => write!(f, "nothing"),
+            Act::Header => write!(f, "block 0"),
             Act::Block(number) => write!(f, "data block {number}"),
-            Act::Eot => f.write_str("EOT"),
-            Act::End => f.write_str("the end block"),
-            Act::Cancel => f.write_str("CAN CAN"),
-            Act::Noise => f.write_str("other bytes"),
-            Act::Answer(reply) => f.write_str(AnswerWords(reply).text()),
+            Act::Eot => write!(f, "EOT"),
+            Act::End => write!(f, "the end block"),
+            Act::Cancel => write!(f, "CAN CAN"),
+            Act::Noise => write!(f, "other bytes"),
+            Act::Answer(reply) => {
+                let words = AnswerWords(reply);
+                write!(f, "{words}")
+            }
             Act::Answers(first, second) => {
                 let one = AnswerWords(first);
                 let other = AnswerWords(second);

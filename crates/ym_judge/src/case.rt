@@ -28,7 +28,7 @@ impl fmt::Display for Case {
 
     fn fmt<W: fmt::Write>(&self, f: &mut fmt::Formatter<W>) -> fmt::Result {
         match *self {
-            Case::Plain => f.write_str("plain"),
+            Case::Plain => write!(f, "plain"),
             Case::Frame(spot, twist) => write!(f, "{spot}: {twist}"),
             Case::Sends(parcel) => write!(f, "{parcel}"),
             Case::Answer(spot, twist) => write!(f, "answer to {spot}: {twist}"),
