@@ -163,24 +163,22 @@ impl fmt::Display for Act {
     ghost output = { λ act. Some (act_text act) };
 
     fn fmt<W: fmt::Write>(&self, f: &mut fmt::Formatter<W>) -> fmt::Result {
-        match *self {
-            Act::Nothing => write!(f, "nothing"),
-            Act::Header => write!(f, "block 0"),
-            Act::Block(number) => write!(f, "data block {number}"),
-            Act::Eot => write!(f, "EOT"),
-            Act::End => write!(f, "the end block"),
-            Act::Cancel => write!(f, "CAN CAN"),
-            Act::Noise => write!(f, "other bytes"),
-            Act::Answer(reply) => {
-                let words = AnswerWords(reply);
-                write!(f, "{words}")
-            }
+        let text = match *self {
+            Act::Nothing => "nothing",
+            Act::Header => "block 0",
+            Act::Block(number) => return write!(f, "data block {number}"),
+            Act::Eot => "EOT",
+            Act::End => "the end block",
+            Act::Cancel => "CAN CAN",
+            Act::Noise => "other bytes",
+            Act::Answer(reply) => AnswerWords(reply).text(),
             Act::Answers(first, second) => {
                 let one = AnswerWords(first);
                 let other = AnswerWords(second);
-                write!(f, "{one}, {other}")
+                return write!(f, "{one}, {other}");
             }
-            Act::Form(form) => write!(f, "{form}"),
-        }
+            Act::Form(form) => return write!(f, "{form}"),
+        };
+        f.write_str(text)
     }
 }

@@ -199,16 +199,21 @@ impl<'a> ReceiverTrial<'a> {
         answers.twice == Reply::AckStart || answers.once == Reply::AckStart
     }
 
+    /// What the keen ones hear of what is delivered.
+    fn keen_bytes(&self, alloc: Global, turn: &Turn) -> Result<Vec<u8>, AllocError> {
+        if is_behind_others(turn.twist) {
+            sent_frame(alloc, self.file(), turn.act)
+        } else {
+            Vec::from_slice(alloc, turn.out.as_slice())
+        }
+    }
+
     /// Has the keen ones hear what is delivered.
     fn deliver_keenly(&mut self, alloc: Global, turn: &Turn) -> Result<(), AllocError>
         ensures notes { self.new.notes ≡ self.old.notes }
         ensures case { self.new.case ≡ self.old.case }
     {
-        let bytes = if is_behind_others(turn.twist) {
-            sent_frame(alloc, self.file(), turn.act)?
-        } else {
-            Vec::from_slice(alloc, turn.out.as_slice())?
-        };
+        let bytes = self.keen_bytes(alloc, turn)?;
         self.keen = self.keen.hear(bytes.as_slice()).0;
         Ok(())
     }

@@ -1,10 +1,11 @@
 //! The frames of the files that are sent to a receiver.
 
-ghost use Rattle.std.specs.Prelude.{◌≡◌, IfOk, option_map};
-ghost use Rattle.ym_file.specs.Plan.{count_of};
+ghost use Rattle.std.specs.Prelude.{◌≡◌, ◌≤◌, IfOk, option_map};
+ghost use Rattle.ym_file.specs.Plan.{count_of, piece_at};
 ghost use Rattle.ym_file.specs.declared.plan.Shape.TheVariants.{Mixed};
 ghost use Rattle.ym_frame.specs.Frame.{IsFrame};
 ghost use Rattle.ym_judging.specs.SentFrames.{IsBlock, IsDataBlock, IsWritten, header_body};
+ghost use Rattle.ym_judging.specs.Contents.{content_of};
 ghost use Rattle.ym_judging.specs.SentFrames.{sent_of};
 
 use crate::payload::{Payload, content};
@@ -60,18 +61,28 @@ fn header_frame(alloc: Global, file: &Payload) -> Result<Vec<u8>, AllocError>
     }
 }
 
-/// The frame of a file's data block, counted from 1. A block that it has not has none.
+/// The frame of a data block that a file has, counted from 1.
 #[tactic(auto, using(crate::proofs::ContentLemmas::content_length))]
+fn data_frame(alloc: Global, file: &Payload, number: u8) -> Result<Vec<u8>, AllocError>
+    requires counted { 1 ≤ number }
+    requires within { number ≤ count_of Mixed file.now.length }
+    ensures { IfOk result (λ frame.
+        IsBlock number (piece_at Mixed (content_of file.now.length) number) frame.items) }
+{
+    let bytes = content(alloc, file.length)?;
+    let block = block_at(bytes.as_slice(), Shape::Mixed, u64::from(number));
+    frame_of(alloc, &Item::Block(block))
+}
+
+/// The frame of a file's data block, counted from 1. A block that it has not has none.
 fn block_frame(alloc: Global, file: &Payload, number: u8) -> Result<Vec<u8>, AllocError>
     ensures { IfOk result (λ frame. IsDataBlock (sent_of file.now) number frame.items) }
 {
-    let position = u64::from(number);
-    if position == 0 || position > count_of(file) {
-        return Ok(Vec::new(alloc));
+    if number == 0 || u64::from(number) > count_of(file) {
+        Ok(Vec::new(alloc))
+    } else {
+        data_frame(alloc, file, number)
     }
-    let bytes = content(alloc, file.length)?;
-    let block = block_at(bytes.as_slice(), Shape::Mixed, position);
-    frame_of(alloc, &Item::Block(block))
 }
 
 /// What an end writes that does this with a file, or with none.

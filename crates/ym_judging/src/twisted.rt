@@ -37,7 +37,10 @@ pub(crate) fn answer_twist(case: Case, spot: Option<Spot>) -> Option<Twist>
 pub(crate) fn is_everywhere(case: Case) -> bool
     ensures { result ≡ is_everywhere case }
 {
-    matches!(case, Case::Plain | Case::Sends(_))
+    match case {
+        Case::Plain | Case::Sends(_) => true,
+        Case::Frame(_, _) | Case::Answer(_, _) | Case::Bytes(_) => false,
+    }
 }
 
 /// For how many milliseconds it is listened for what comes behind the end of the session: longer
