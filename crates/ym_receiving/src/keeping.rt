@@ -2,7 +2,7 @@
 
 ghost use Rattle.std.specs.Prelude.{◌≡◌};
 ghost use Rattle.ym_receiving.specs.Keeping.{HoldsSession, KeepsOn, ReceivesSo};
-ghost use Rattle.ym_receiving.specs.Receiving.{ReceiveGives};
+ghost use Rattle.ym_receiving.specs.Receiving.{ReceiveGives, SessionGives};
 ghost use Rattle.ym_answer.specs.Page.{page};
 
 use crate::connections::{Connections, listen, take_told};
@@ -20,8 +20,27 @@ use ym_record::{Beside, Records};
 use ym_streams::{Output, Outputs, StreamFault};
 use ym_teller::Teller;
 
-/// Receives the files of one connection, and prints them and how the receiver has ended. Where that
-/// ends in a fault, its line goes to `err`.
+/// Receives the files of one connection, and prints them and how the receiver has ended.
+fn receive_over<R, O, E>(
+    rt: &R,
+    stream: TcpStream,
+    asked: Recorded<'_, '_, '_>,
+    out: &mut O,
+    teller: &mut Teller<E>,
+) -> Result<u8, CommandFault>
+where
+    R: Files<File = File> + Clock + AllocGlobal,
+    O: Output,
+    E: Write + Drop,
+    ensures { SessionGives asked.entry.order.confirm
+        (page (O.contents out.old) (O.failures out.old)) result
+        (page (O.contents out.new) (O.failures out.new)) }
+{
+    let wire = SocketWire::new(rt, stream, Role::Receiver);
+    receive_through(rt, wire, asked, out, teller)
+}
+
+/// The same of one of several connections, also where that ends in a fault: its line goes to `err`.
 fn hold_session<R, O, F, E>(
     rt: &R,
     stream: TcpStream,
@@ -41,8 +60,7 @@ where
         (page (F.contents outputs.new.err) (F.failures outputs.new.err)) }
 {
     asked.records.begin(rt, rt.alloc(), teller);
-    let wire = SocketWire::new(rt, stream, Role::Receiver);
-    match receive_through(rt, wire, asked, &mut outputs.out, teller) {
+    match receive_over(rt, stream, asked, &mut outputs.out, teller) {
         Ok(_) => Ok(()),
         Err(fault) => {
             outputs.err.put_line(fault)?;
@@ -115,9 +133,8 @@ where
 {
     let order = intake.order;
     let stream = take_told(&mut intake.connections, teller)?;
-    let wire = SocketWire::new(rt, stream, Role::Receiver);
     let records = &mut intake.records;
-    receive_through(rt, wire, Recorded { order, records }, out, teller)
+    receive_over(rt, stream, Recorded { order, records }, out, teller)
 }
 
 /// Receives files from connections of which none was taken yet, and none has failed, as it is asked

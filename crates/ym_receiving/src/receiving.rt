@@ -27,7 +27,7 @@ use ym_answer::{CommandFault, FileLine};
 use ym_eager::Eager;
 use ym_ends::{LineWords, ToldLine, ToldWire};
 use ym_file::SinkFault;
-use ym_folder::{DirSink, Durability, Leftover, check_folder};
+use ym_folder::{DirSink, Durability, Folder, Leftover, check_folder};
 use ym_header::Header;
 use ym_host::SystemFolder;
 use ym_line::ReceiverLine;
@@ -112,14 +112,13 @@ pub struct Order<'a> {
 }
 
 /// The sink that is asked for, which stores files in a folder.
-fn open_sink<'a, R: Files<File = File>>(
-    rt: &'a R,
+fn open_sink<D: Folder + Drop>(
+    folder: D,
     alloc: Global,
     order: Order<'_>,
-) -> Result<DirSink<SystemFolder<&'a R>>, AllocError>
+) -> Result<DirSink<D>, AllocError>
     ensures { IfOk result (λ sink. IsNew (kept_of sink)) }
 {
-    let folder = SystemFolder::new(rt);
     DirSink::new(folder, alloc, order.dir, order.durability, order.leftover)
 }
 
@@ -162,7 +161,48 @@ pub(crate) fn look_at<R: Files<File = File>, E: Write + Drop>(
     looked
 }
 
-/// Receives the files that come over a line, as [`receive_on`] does over a port of it.
+/// Receives the files that come over a port, as [`receive_on`] does, of which the first read finds
+/// the line quiet at once where that is asked for.
+fn receive_eagerly<R, P, O, E>(
+    rt: &R,
+    port: P,
+    order: Order<'_>,
+    out: &mut O,
+    teller: &mut Teller<E>,
+) -> Result<u8, CommandFault>
+where
+    R: Files<File = File> + Clock + AllocGlobal,
+    P: ToldLine + Drop,
+    O: Output,
+    E: Write + Drop,
+    ensures { SessionGives order.entry.confirm
+        (page (O.contents out.old) (O.failures out.old)) result
+        (page (O.contents out.new) (O.failures out.new)) }
+{
+    receive_on(rt, Eager::new(port, order.eager), order, out, teller)
+}
+
+/// The same of a port over which no block 0 comes out of turn.
+fn receive_in_step<R, P, O, E>(
+    rt: &R,
+    port: P,
+    order: Order<'_>,
+    out: &mut O,
+    teller: &mut Teller<E>,
+) -> Result<u8, CommandFault>
+where
+    R: Files<File = File> + Clock + AllocGlobal,
+    P: ToldLine + Drop,
+    O: Output,
+    E: Write + Drop,
+    ensures { SessionGives order.entry.confirm
+        (page (O.contents out.old) (O.failures out.old)) result
+        (page (O.contents out.new) (O.failures out.new)) }
+{
+    receive_eagerly(rt, InStep::new(port), order, out, teller)
+}
+
+/// Receives the files that come over a line, as [`receive_in_step`] does over a port of it.
 fn receive_at<R, W, O, E>(
     rt: &R,
     wire: W,
@@ -179,9 +219,8 @@ where
         (page (O.contents out.old) (O.failures out.old)) result
         (page (O.contents out.new) (O.failures out.new)) }
 {
-    let port = InStep::new(TimedPort::new(wire, Role::Receiver));
-    let port = Eager::new(port, order.eager);
-    receive_on(rt, port, order, out, teller)
+    let port = TimedPort::new(wire, Role::Receiver);
+    receive_in_step(rt, port, order, out, teller)
 }
 
 /// What a receiver is asked for, and what is recorded of it.
@@ -322,10 +361,10 @@ fn end_of<E: Write + Drop, C: Clock + Drop>(
     (last, named, lately)
 }
 
-/// The port that a receiver hears, and the sink that takes its files.
+/// The port that a receiver hears, and the sink or the folder that takes its files.
 struct Ends<P, K> {
     port: P,
-    sink: K,
+    into: K,
 }
 
 /// Receives the files that come over a port of the program's own into a new sink, as
@@ -343,12 +382,12 @@ where
     K: Store + Explains + Drop,
     O: Output,
     E: Write + Drop,
-    requires { IsNew (K.kept ends.sink) }
+    requires { IsNew (K.kept ends.into) }
     ensures { ReceivesBatch order.entry.confirm
         (page (O.contents out.old) (O.failures out.old)) result
         (page (O.contents out.new) (O.failures out.new)) }
 {
-    let Ends { port, sink } = ends;
+    let Ends { port, into } = ends;
     let alloc = rt.alloc();
     let looked = Looked {
         alloc,
@@ -357,7 +396,7 @@ where
     };
     let meter = Meter::new(alloc, rt, teller, QUIET_S);
     let shown = RefCell::new(Receiving::new(alloc, meter, besides(order.confirm)));
-    let (sink, left, answer) = receive_watched(port, sink, &shown, looked, out);
+    let (sink, left, answer) = receive_watched(port, into, &shown, looked, out);
     let (last, named, lately) = end_of(shown.into_inner());
     let outcome = ReceiverFinish {
         state: left.state,
@@ -369,6 +408,29 @@ where
     };
     tell_outcome(teller, alloc, &answer, outcome, order.leftover);
     answer
+}
+
+/// The same into a folder, as [`receive_on`] does into one of the system.
+fn receive_stored<R, P, D, O, E>(
+    rt: &R,
+    ends: Ends<P, D>,
+    order: Order<'_>,
+    out: &mut O,
+    teller: &mut Teller<E>,
+) -> Result<u8, CommandFault>
+where
+    R: Clock + AllocGlobal,
+    P: ToldLine + Drop,
+    D: Folder + Drop,
+    O: Output,
+    E: Write + Drop,
+    ensures { SessionGives order.entry.confirm
+        (page (O.contents out.old) (O.failures out.old)) result
+        (page (O.contents out.new) (O.failures out.new)) }
+{
+    let Ends { port, into: folder } = ends;
+    let into = open_sink(folder, rt.alloc(), order)?;
+    receive_into(rt, Ends { port, into }, order, out, teller)
 }
 
 /// Receives the files that come over a port of the program's own, and prints them and how the
@@ -390,6 +452,6 @@ where
         (page (O.contents out.old) (O.failures out.old)) result
         (page (O.contents out.new) (O.failures out.new)) }
 {
-    let sink = open_sink(rt, rt.alloc(), order)?;
-    receive_into(rt, Ends { port, sink }, order, out, teller)
+    let into = SystemFolder::new(rt);
+    receive_stored(rt, Ends { port, into }, order, out, teller)
 }

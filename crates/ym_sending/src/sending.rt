@@ -197,14 +197,19 @@ fn watch_of<'s, 't, E: Write + Drop, C: Clock + Drop>(
     }
 }
 
-/// The same over a port of the program's own. Where somebody looks, how far each file is or whom it
-/// waits for is shown, and why the sender has ended told: also which file could not be read, where
-/// its source has said so.
-pub(crate) fn send_on<R, P, S, O, E>(
+/// A line or a port, and the files that are sent there.
+struct Over<'a, L> {
+    line: L,
+    files: SentFiles<'a>,
+}
+
+/// The same as [`send_batch`] over a port of the program's own. Where somebody looks, how far each
+/// file is or whom it waits for is shown, and why the sender has ended told: also which file could
+/// not be read, where its source has said so.
+fn send_on<R, P, S, O, E>(
     rt: &R,
-    port: P,
+    over: Over<'_, P>,
     sender: &mut SenderFrom<S>,
-    files: SentFiles<'_>,
     out: &mut O,
     teller: &mut Teller<E>,
 ) -> Result<u8, CommandFault>
@@ -218,6 +223,7 @@ where
         (page (O.contents out.old) (O.failures out.old)) result
         (page (O.contents out.new) (O.failures out.new)) }
 {
+    let Over { line: port, files } = over;
     let is_looked_at = teller.is_loud;
     let shown = RefCell::new(Sending::new(Meter::new(rt.alloc(), rt, teller, QUIET_S)));
     let watch = watch_of(&shown, is_looked_at);
@@ -264,7 +270,30 @@ pub(crate) struct Outgoing<'a, S: Source> {
     pub(crate) records: Records<'a>,
 }
 
-/// The same over a line, which is recorded where that is wanted.
+/// The same over a line, by a port of it.
+fn send_at<R, W, S, O, E>(
+    rt: &R,
+    over: Over<'_, W>,
+    sender: &mut SenderFrom<S>,
+    out: &mut O,
+    teller: &mut Teller<E>,
+) -> Result<u8, CommandFault>
+where
+    R: Clock + AllocGlobal,
+    W: ToldWire + Drop,
+    S: Source,
+    O: Output,
+    E: Write + Drop,
+    ensures { SendsOn sender.old sender.new
+        (page (O.contents out.old) (O.failures out.old)) result
+        (page (O.contents out.new) (O.failures out.new)) }
+{
+    let Over { line: wire, files } = over;
+    let line = TimedPort::new(wire, Role::Sender);
+    send_on(rt, Over { line, files }, sender, out, teller)
+}
+
+/// The same over a line that is recorded where that is wanted.
 pub(crate) fn send_through<R, W, S, O, E>(
     rt: &R,
     wire: W,
@@ -288,9 +317,9 @@ where
         records,
     } = outgoing;
     records.start();
-    let wire = RecordedWire::new(wire, rt, Role::Sender, &mut records.recorder);
-    let port = TimedPort::new(wire, Role::Sender);
-    let answer = send_on(rt, port, sender, *files, out, teller);
+    let line = RecordedWire::new(wire, rt, Role::Sender, &mut records.recorder);
+    let files = *files;
+    let answer = send_at(rt, Over { line, files }, sender, out, teller);
     records.end(matches!(answer, Ok(0)), teller);
     answer
 }
@@ -339,6 +368,27 @@ where
     })
 }
 
+/// Sends over a connection, and prints how the sender has ended.
+fn send_over_socket<R, S, O, E>(
+    rt: &R,
+    stream: TcpStream,
+    outgoing: &mut Outgoing<'_, S>,
+    out: &mut O,
+    teller: &mut Teller<E>,
+) -> Result<u8, CommandFault>
+where
+    R: Clock + AllocGlobal,
+    S: Source,
+    O: Output,
+    E: Write + Drop,
+    ensures { SendsOn outgoing.old.sender outgoing.new.sender
+        (page (O.contents out.old) (O.failures out.old)) result
+        (page (O.contents out.new) (O.failures out.new)) }
+{
+    let wire = SocketWire::new(rt, stream, Role::Sender);
+    send_through(rt, wire, outgoing, out, teller)
+}
+
 /// Sends files to whoever listens at a port, and prints how the sender has ended. Why one of
 /// them could not be read it says in a cell.
 fn send_telling<'a, R, O, E>(
@@ -360,8 +410,7 @@ where
     let AtPort { port, order } = asked;
     let mut outgoing = outgoing_of(rt, order, unread, teller)?;
     let stream = connect_telling(rt, port, teller)?;
-    let wire = SocketWire::new(rt, stream, Role::Sender);
-    send_through(rt, wire, &mut outgoing, out, teller)
+    send_over_socket(rt, stream, &mut outgoing, out, teller)
 }
 
 /// Sends files to whoever listens at a port, and prints how the sender has ended.

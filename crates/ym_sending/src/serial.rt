@@ -2,21 +2,57 @@
 
 ghost use Rattle.std.specs.Prelude.{map};
 ghost use Rattle.ym_answer.specs.Page.{page};
-ghost use Rattle.ym_sending.specs.Sending.{SendGives};
+ghost use Rattle.ym_sending.specs.Sending.{SendGives, SendsOn};
 
-use crate::sending::{SendOrder, outgoing_of, send_through};
+use crate::sending::{Outgoing, SendOrder, outgoing_of, send_through};
 use crate::told_source::UnreadCell;
 use std::alloc::AllocGlobal;
 use std::fs::{File, Files};
 use std::io;
-use std::io::{IsTerminal, Print, Write};
+use std::io::{IsTerminal, Print, Read, Write};
 use std::time::Clock;
 use ym_answer::CommandFault;
 use ym_ends::{OnLine, open_line};
+use ym_file::Source;
 use ym_host::TtyWire;
 use ym_port::Role;
 use ym_streams::Output;
 use ym_teller::Teller;
+
+/// What a [`TtyWire`] is made of.
+struct TtyParts<I, U> {
+    reader: I,
+    writer: U,
+    is_terminal: bool,
+}
+
+/// Sends what is sent over a terminal, and prints how the sender has ended.
+fn send_at<R, I, U, S, O, E>(
+    rt: &R,
+    parts: TtyParts<I, U>,
+    outgoing: &mut Outgoing<'_, S>,
+    out: &mut O,
+    teller: &mut Teller<E>,
+) -> Result<u8, CommandFault>
+where
+    R: Clock + AllocGlobal,
+    I: Read + Drop,
+    U: Write + Drop,
+    S: Source,
+    O: Output,
+    E: Write + Drop,
+    ensures { SendsOn outgoing.old.sender outgoing.new.sender
+        (page (O.contents out.old) (O.failures out.old)) result
+        (page (O.contents out.new) (O.failures out.new)) }
+{
+    let TtyParts {
+        reader,
+        writer,
+        is_terminal,
+    } = parts;
+    let wire = TtyWire::new(rt, reader, writer, is_terminal, Role::Sender);
+    send_through(rt, wire, outgoing, out, teller)
+}
 
 /// Sends files over a line, and prints how the sender has ended. Why one of them could not be
 /// read it says in a cell.
@@ -42,14 +78,22 @@ where
     match line {
         Some(path) => {
             let file = open_line(rt, path, teller)?;
-            let wire = TtyWire::new(rt, &file, &file, true, Role::Sender);
-            send_through(rt, wire, &mut outgoing, out, teller)
+            let parts = TtyParts {
+                reader: &file,
+                writer: &file,
+                is_terminal: true,
+            };
+            send_at(rt, parts, &mut outgoing, out, teller)
         }
         None => {
             let reader = rt.reader();
             let is_terminal = reader.is_terminal();
-            let wire = TtyWire::new(rt, reader, io::writer(rt), is_terminal, Role::Sender);
-            send_through(rt, wire, &mut outgoing, out, teller)
+            let parts = TtyParts {
+                reader,
+                writer: io::writer(rt),
+                is_terminal,
+            };
+            send_at(rt, parts, &mut outgoing, out, teller)
         }
     }
 }
