@@ -1,2 +1,3 @@
+mod FrontLemmas
 mod PictureLemmas
 mod StandsForLemmas

@@ -47,11 +47,13 @@ impl Arrow {
         ensures { IfOk result (λ arrow. arrow ≡ arrow_of line.now) }
     {
         let undated = undated(line);
-        let Some(way) = way_of(undated) else {
-            return Ok(None);
-        };
-        let arrow = Arrow::of_parts(alloc, moment_of(line), way, behind(undated, 2))?;
-        Ok(Some(arrow))
+        match way_of(undated) {
+            Some(way) => {
+                let words = behind(undated, 2);
+                Ok(Some(Arrow::of_parts(alloc, moment_of(line), way, words)?))
+            }
+            None => Ok(None),
+        }
     }
 
     /// The arrow of these words, which went this way at this moment.

@@ -1,6 +1,8 @@
 //! The rows of a session, as its lines come.
 
-ghost use Rattle.std.specs.Prelude.{◌≡◌, ◌<◌, ◌∷◌, ◌++◌, [], IfOk, OnOk, length, string_bytes};
+ghost use Rattle.std.specs.Prelude.{◌≡◌, ◌<◌, ◌+◌, ◌∷◌, ◌++◌, [], IfOk, OnOk, drop, length, string_bytes};
+ghost use Rattle.ym_chart.specs.Arrows.{arrow_of};
+ghost use Rattle.ym_chart.specs.ChartText.{text_of};
 ghost use Rattle.ym_chart.specs.Rows as spec;
 ghost use Rattle.ym_chart.specs.Drawing.{chart_words};
 
@@ -107,26 +109,48 @@ impl Chart {
     fn end_line(&mut self) -> Result<(), AllocError>
         ensures { OnOk result (self.new ≡ spec.after_line self.old) }
     {
-        match Arrow::of(self.alloc, self.line.as_slice())? {
-            Some(arrow) => self.add_arrow(arrow)?,
-            None => self.add_remark()?,
-        }
+        self.add_line()?;
         self.line.clear();
         Ok(())
+    }
+
+    /// Takes what the line that has come tells.
+    fn add_line(&mut self) -> Result<(), AllocError>
+        ensures { OnOk result (self.new ≡ spec.told_line self.old (arrow_of self.old.line)) }
+    {
+        match Arrow::of(self.alloc, self.line.as_slice())? {
+            Some(arrow) => self.add_arrow(arrow),
+            None => self.add_remark(),
+        }
     }
 
     /// Takes a line that tells no frame and no answer.
     fn add_remark(&mut self) -> Result<(), AllocError>
         ensures { OnOk result (self.new ≡ spec.after_remark self.old) }
     {
-        let line = self.line.as_slice();
-        if is_indented(line) {
-            let note = Text::of(self.alloc, behind(line, 2))?;
-            self.flush()?;
-            return self.settle(Row::Note(note));
+        if is_indented(self.line.as_slice()) {
+            self.add_note()
+        } else {
+            self.add_end()
         }
+    }
+
+    /// Takes an indented line, which is a row.
+    fn add_note(&mut self) -> Result<(), AllocError>
+        ensures { OnOk result (self.new
+            ≡ spec.settled (spec.flushed self.old) (Row.Note (text_of (drop 2 self.old.line)))) }
+    {
+        let note = Text::of(self.alloc, behind(self.line.as_slice(), 2))?;
+        self.flush()?;
+        self.settle(Row::Note(note))
+    }
+
+    /// Takes a line that is told at the end, where there is room.
+    fn add_end(&mut self) -> Result<(), AllocError>
+        ensures { OnOk result (self.new ≡ spec.with_end self.old self.old.line) }
+    {
         if self.ends.len() < MOST_ENDS {
-            let end = Text::of(self.alloc, line)?;
+            let end = Text::of(self.alloc, self.line.as_slice())?;
             self.ends.push(end)?;
         }
         Ok(())
@@ -139,10 +163,7 @@ impl Chart {
         match arrow.kind {
             Kind::Next => self.add_block(arrow),
             Kind::Takes => self.add_answer(arrow),
-            Kind::Plain | Kind::Odd => {
-                self.flush()?;
-                self.settle(Row::Arrow(arrow))
-            }
+            Kind::Plain | Kind::Odd => self.add_lone(arrow),
         }
     }
 
@@ -163,10 +184,7 @@ impl Chart {
     {
         match self.block.take() {
             Some(block) => self.add_pair(block, answer),
-            None => {
-                self.flush()?;
-                self.settle(Row::Arrow(answer))
-            }
+            None => self.add_lone(answer),
         }
     }
 
@@ -188,10 +206,11 @@ impl Chart {
         ensures { OnOk result (self.new ≡ spec.after_few self.old block answer) }
     {
         if self.few.len() < FEW {
-            return self.push_few(block, answer);
+            self.push_few(block, answer)
+        } else {
+            self.begin_streak(block);
+            Ok(())
         }
-        self.begin_streak(block);
-        Ok(())
     }
 
     /// Puts a block and its answer behind the others that wait.
@@ -215,6 +234,14 @@ impl Chart {
             count: 4,
         });
         self.few.clear();
+    }
+
+    /// Puts an arrow behind all that waits.
+    fn add_lone(&mut self, arrow: Arrow) -> Result<(), AllocError>
+        ensures { OnOk result (self.new ≡ spec.settled (spec.flushed self.old) (Row.Arrow arrow)) }
+    {
+        self.flush()?;
+        self.settle(Row::Arrow(arrow))
     }
 
     /// Makes rows of all that waits.
@@ -262,11 +289,29 @@ impl Chart {
         ensures { OnOk result (self.new ≡ spec.settled self.old row) }
     {
         if self.rows.len() < MOST_ROWS {
-            self.rows.push(row)?;
-            return Ok(());
+            self.push_row(row)
+        } else {
+            drop(row);
+            self.leave_out();
+            Ok(())
         }
-        self.left_out = self.left_out.saturating_add(1);
+    }
+
+    /// Puts a row behind the others.
+    fn push_row(&mut self, row: Row) -> Result<(), AllocError>
+        requires { length self.old.rows < MOST_ROWS }
+        ensures { OnOk result
+            (self.new ≡ record self.old { rows = self.old.rows ++ row ∷ [] }) }
+    {
+        self.rows.push(row)?;
         Ok(())
+    }
+
+    /// Counts a row for which there is no room.
+    fn leave_out(&mut self)
+        ensures { self.new ≡ record self.old { left_out = spec.capped (self.old.left_out + 1) } }
+    {
+        self.left_out = self.left_out.saturating_add(1);
     }
 
     /// Ends the chart, and answers its picture.
@@ -277,7 +322,10 @@ impl Chart {
     pub fn picture(mut self) -> Result<String, AllocError>
         ensures { IfOk result (λ text. string_bytes text ≡ chart_words (spec.flushed self)) }
     {
-        self.finished()
+        let picture = self.finished();
+        // Nothing of the chart is kept beside its picture.
+        drop(self);
+        picture
     }
 
     /// Makes rows of all that waits, and answers the picture.

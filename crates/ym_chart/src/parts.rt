@@ -27,9 +27,19 @@ fn moment_len(line: &[u8]) -> usize
     ensures exact { result ≡ spec.moment_len line.now }
     ensures within { result ≤ length line.now }
 {
-    line.iter()
-        .take_while(|byte| matches!(**byte, b'0'..=b'9' | b'.'))
-        .count()
+    for (place, byte) in line.iter().enumerate() {
+        if !is_of_moment(*byte) {
+            return place;
+        }
+    }
+    line.len()
+}
+
+/// Whether the byte is a digit or the point.
+fn is_of_moment(byte: u8) -> bool
+    ensures { result ≡ spec.is_of_moment byte }
+{
+    matches!(byte, b'0'..=b'9' | b'.')
 }
 
 /// The moment at the front of a line.
@@ -75,10 +85,12 @@ fn name_len(words: &[u8]) -> usize
     ensures exact { result ≡ spec.name_len words.now }
     ensures within { result ≤ length words.now }
 {
-    words
-        .iter()
-        .take_while(|byte| !matches!(**byte, b',' | b':'))
-        .count()
+    for (place, byte) in words.iter().enumerate() {
+        if *byte == b',' || *byte == b':' {
+            return place;
+        }
+    }
+    words.len()
 }
 
 /// The name of what is told.
@@ -100,7 +112,12 @@ fn head_len(words: &[u8]) -> usize
     ensures exact { result ≡ spec.head_len words.now }
     ensures within { result ≤ length words.now }
 {
-    words.iter().take_while(|byte| **byte != b':').count()
+    for (place, byte) in words.iter().enumerate() {
+        if *byte == b':' {
+            return place;
+        }
+    }
+    words.len()
 }
 
 /// What it means to its session: what stands behind the colon.

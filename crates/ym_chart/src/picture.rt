@@ -1,7 +1,7 @@
 //! The picture of rows.
 
 ghost use Rattle.std.specs.Prelude.{◌≡◌, ◌^◌, ◌≤◌, ◌++◌, Some, IfOk, OnOk, length, string_bytes};
-ghost use Rattle.ym_chart.specs.Drawing.{end_top, end_words, ends_words, head_words, left_out_words, lives_words, paper_words, picture_words, row_top, rows_words};
+ghost use Rattle.ym_chart.specs.Drawing.{end_top, end_words, ends_words, head_words, left_out_words, lives_words, paper_words, picture_words, row_top, row_words, rows_words};
 
 use crate::chart::{MOST_ENDS, MOST_ROWS};
 use crate::row::{LeftOut, Placed, Row};
@@ -133,6 +133,18 @@ fn end_top(foot: u64, number: usize) -> u64
     foot + END_STEP * (number as u64 + 1)
 }
 
+/// Puts the row of this number behind a text.
+fn push_row(alloc: Global, text: &mut String, number: usize, row: &Row) -> Result<(), AllocError>
+    requires { number ≤ MOST_ROWS }
+    ensures { OnOk result
+        (string_bytes text.new ≡ string_bytes text.old ++ row_words (row_top number) row.now) }
+{
+    let at = row_top(number);
+    let placed = Placed { at, row };
+    text.push_str(format!(in alloc; "{placed}")?.as_str())?;
+    Ok(())
+}
+
 /// Puts these rows behind a text.
 fn push_rows(alloc: Global, text: &mut String, rows: &[Row]) -> Result<(), AllocError>
     requires { length rows.now ≤ MOST_ROWS }
@@ -140,9 +152,7 @@ fn push_rows(alloc: Global, text: &mut String, rows: &[Row]) -> Result<(), Alloc
         (string_bytes text.new ≡ string_bytes text.old ++ rows_words 0 rows.now) }
 {
     for (number, row) in rows.iter().enumerate() {
-        let at = row_top(number);
-        let placed = Placed { at, row };
-        text.push_str(format!(in alloc; "{placed}")?.as_str())?;
+        push_row(alloc, text, number, row)?;
     }
     Ok(())
 }

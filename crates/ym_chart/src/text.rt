@@ -1,6 +1,6 @@
 //! Text that can stand in XML.
 
-ghost use Rattle.std.specs.Prelude.{◌≡◌, ◌<◌, ◌++◌, IfOk, OnOk, flat_map, string_bytes};
+ghost use Rattle.std.specs.Prelude.{◌≡◌, ◌<◌, ◌++◌, IfOk, OnOk, codes, flat_map, string_bytes, take};
 ghost use Rattle.ym_chart.specs.ChartText.{StandsFor, code, digit as digit_of_value, is_printable as prints, text_of, written};
 
 use crate::parts::prefix_of;
@@ -30,12 +30,7 @@ impl Text {
     pub(crate) fn of(alloc: Global, bytes: &[u8]) -> Result<Text, AllocError>
         ensures { IfOk result (λ text. text ≡ text_of bytes.now) }
     {
-        if bytes.len() <= MOST_TEXT {
-            let written = escaped(alloc, bytes)?;
-            return Ok(Text { written });
-        }
-        let mut written = escaped(alloc, prefix_of(bytes, MOST_TEXT))?;
-        written.push_str(" ..")?;
+        let written = drawn(alloc, bytes)?;
         Ok(Text { written })
     }
 }
@@ -75,6 +70,27 @@ fn spelled(alloc: Global, bytes: &[u8]) -> Result<String, AllocError>
     Ok(text)
 }
 
+/// What is drawn of these bytes: all of them, or as many as there is room for.
+fn drawn(alloc: Global, bytes: &[u8]) -> Result<String, AllocError>
+    ensures { IfOk result (λ text. string_bytes text ≡ text_of bytes.now) }
+{
+    if bytes.len() <= MOST_TEXT {
+        spelled(alloc, bytes)
+    } else {
+        cut(alloc, bytes)
+    }
+}
+
+/// As many of these bytes as there is room for, with a mark that there are more.
+fn cut(alloc: Global, bytes: &[u8]) -> Result<String, AllocError>
+    ensures { IfOk result (λ text.
+        string_bytes text ≡ flat_map written (take MOST_TEXT bytes.now) ++ codes " ..") }
+{
+    let mut text = spelled(alloc, prefix_of(bytes, MOST_TEXT))?;
+    text.push_str(" ..")?;
+    Ok(text)
+}
+
 /// Whether the byte is a character of ASCII that is printed.
 fn is_printable(byte: u8) -> bool
     ensures { result ≡ prints byte }
@@ -102,8 +118,7 @@ fn push_code(text: &mut String, byte: u8) -> Result<(), AllocError>
 {
     text.push_str("\\x")?;
     text.push(digit(byte / 16))?;
-    text.push(digit(byte % 16))?;
-    Ok(())
+    text.push(digit(byte % 16))
 }
 
 /// A hexadecimal digit.

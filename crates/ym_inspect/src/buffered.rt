@@ -1,6 +1,6 @@
 //! The bytes of one way that are not told yet.
 
-ghost use Rattle.std.specs.Prelude.{◌≡◌, ◌≤◌, ◌++◌, [], drop, OnOk, OnErr};
+ghost use Rattle.std.specs.Prelude.{◌≡◌, ◌≤◌, ◌++◌, [], drop, IfOk, OnOk, OnErr};
 
 use std::alloc::{AllocError, Global};
 use std::marker::Model;
@@ -21,6 +21,15 @@ impl Model for Buffered {
     ghost view = { λ h. drop h.start h.bytes.items };
 
     ghost invariant = { λ h. h.start ≤ vec_len h.bytes };
+}
+
+/// These bytes, and behind them the others.
+fn joined(alloc: Global, front: &[u8], behind: &[u8]) -> Result<Vec<u8>, AllocError>
+    ensures { IfOk result (λ bytes. bytes.items ≡ front.now ++ behind.now) }
+{
+    let mut bytes = Vec::from_slice(alloc, front)?;
+    bytes.extend_from_slice(behind)?;
+    Ok(bytes)
 }
 
 impl Buffered {
@@ -47,9 +56,7 @@ impl Buffered {
         ensures ok { OnOk result (self.new ≡ self.old ++ piece.now) }
         ensures err { OnErr result (self.new ≡ self.old) }
     {
-        let mut bytes = Vec::from_slice(self.alloc, &self.bytes[self.start..])?;
-        bytes.extend_from_slice(piece)?;
-        self.bytes = bytes;
+        self.bytes = joined(self.alloc, &self.bytes[self.start..], piece)?;
         self.start = 0;
         Ok(())
     }

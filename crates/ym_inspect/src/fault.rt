@@ -83,16 +83,17 @@ impl fmt::Display for InspectFault {
     ghost output = { λ fault. Some (fault_words fault) };
 
     fn fmt<W: fmt::Write>(&self, f: &mut fmt::Formatter<W>) -> fmt::Result {
-        match *self {
-            InspectFault::Memory => f.write_str("out of memory"),
-            InspectFault::Read => f.write_str("a read of the capture failed"),
-            InspectFault::Write => f.write_str("a write failed"),
-            InspectFault::Endless => f.write_str("the capture has no end"),
-            InspectFault::Line { number, why } => write!(f, "line {number}: {why}"),
-            InspectFault::Cut(number) => write!(f, "line {number} has no end"),
-            InspectFault::Pcapng => f.write_str("it is a pcapng capture, which is not read"),
-            InspectFault::Packet { position, why } => write!(f, "byte {position}: {why}"),
-        }
+        let words = match *self {
+            InspectFault::Memory => "out of memory",
+            InspectFault::Read => "a read of the capture failed",
+            InspectFault::Write => "a write failed",
+            InspectFault::Endless => "the capture has no end",
+            InspectFault::Line { number, why } => return write!(f, "line {number}: {why}"),
+            InspectFault::Cut(number) => return write!(f, "line {number} has no end"),
+            InspectFault::Pcapng => "it is a pcapng capture, which is not read",
+            InspectFault::Packet { position, why } => return write!(f, "byte {position}: {why}"),
+        };
+        f.write_str(words)
     }
 }
 

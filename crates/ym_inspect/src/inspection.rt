@@ -180,20 +180,26 @@ impl Inspection {
         ensures { IsPrefix self.now way settle result }
     {
         match way {
-            Direction::There => {
-                let buffered = self.there.as_slice();
-                prefix_there(
-                    buffered,
-                    tell_sent(self.scene.standing.position, buffered),
-                    settle,
-                )
-            }
-            Direction::Back => prefix_back(
-                self.scene.run.tail_back(),
-                self.back.as_slice(),
-                settle,
-            ),
+            Direction::There => self.prefix_there(settle),
+            Direction::Back => self.prefix_back(settle),
         }
+    }
+
+    /// The same of the sender's way.
+    fn prefix_there(&self, settle: Settle) -> Option<BufferedPrefix>
+        ensures { IsPrefix self.now Direction.There settle result }
+    {
+        let buffered = self.there.as_slice();
+        let told = tell_sent(self.scene.standing.position, buffered);
+        prefix_there(buffered, told, settle)
+    }
+
+    /// The same of the receiver's way.
+    fn prefix_back(&self, settle: Settle) -> Option<BufferedPrefix>
+        ensures { IsPrefix self.now Direction.Back settle result }
+    {
+        let tail = self.scene.run.tail_back();
+        prefix_back(tail, self.back.as_slice(), settle)
     }
 
     /// Tells what stands at the front of what is held of this way, where that is sure, and lets go
