@@ -113,7 +113,8 @@ fn write_out<D: Folder>(
 {
     check_sound(opened.standing)?;
     opened.standing = Standing::Torn;
-    behind.flush(folder, &mut opened.file, &opened.part)
+    behind.flush(folder, &mut opened.file, &opened.part)?;
+    Ok(())
 }
 
 /// Gives the file its name, where what stands at the part's place is still the file that was
