@@ -2,7 +2,7 @@
 
 use crate::rubbish::Rubbish;
 use crate::surplus::Surplus;
-use std::alloc::Global;
+use std::alloc::{AllocError, Global};
 use std::io::Write;
 use std::time::{Clock, Duration, Instant};
 use ym_teller::Teller;
@@ -157,7 +157,13 @@ impl<'t, E: Write + Drop, C: Clock + Drop> Meter<'t, E, C> {
         course.shown = now;
         let progress = course.progress(now, done, repeats);
         let columns = self.teller.look.columns;
-        if let Ok(line) = progress_line(self.alloc, course.name.as_str(), progress, columns) {
+        let line = progress_line(self.alloc, course.name.as_str(), progress, columns);
+        self.show(line);
+    }
+
+    /// Shows a line, where there was memory for it.
+    fn show(&mut self, line: Result<String, AllocError>) {
+        if let Ok(line) = line {
             self.teller.show(line.as_str());
         }
     }
@@ -202,12 +208,7 @@ impl<'t, E: Write + Drop, C: Clock + Drop> Meter<'t, E, C> {
             self.quiet.has_heard = false;
         }
         let millis = self.millis_since(self.quiet.since);
-        let is_due = match self.quiet.shown {
-            None if is_first => self.teller.look.at_err,
-            None => 1000 <= millis && self.teller.pause_ms() <= millis,
-            shown => 1000 <= millis && self.teller.pause_ms() <= self.millis_since(shown),
-        };
-        if is_due {
+        if self.is_due(is_first, millis) {
             self.quiet.shown = Instant::now(&self.clock).ok();
             self.show_waiting(Waiting {
                 awaited,
@@ -217,12 +218,19 @@ impl<'t, E: Write + Drop, C: Clock + Drop> Meter<'t, E, C> {
         }
     }
 
+    /// Whether it is to be shown that its end waits, for so many milliseconds by now.
+    fn is_due(&self, is_first: bool, millis: u64) -> bool {
+        match self.quiet.shown {
+            None if is_first => self.teller.look.at_err,
+            None => 1000 <= millis && self.teller.pause_ms() <= millis,
+            shown => 1000 <= millis && self.teller.pause_ms() <= self.millis_since(shown),
+        }
+    }
+
     /// Shows what it waits for.
     fn show_waiting(&mut self, waiting: Waiting) {
         let columns = self.teller.look.columns;
-        if let Ok(line) = waiting_line(self.alloc, waiting, columns) {
-            self.teller.show(line.as_str());
-        }
+        self.show(waiting_line(self.alloc, waiting, columns));
     }
 
     /// These bytes came.

@@ -1,5 +1,7 @@
 //! Who watches the sink of a receiver, and its port.
 
+ghost use Rattle.std.specs.Prelude.{◌<◌, length, IfSome};
+
 use crate::meter::Meter;
 use crate::sink_watch::SinkWatch;
 use crate::watched_port::PortWatch;
@@ -45,6 +47,14 @@ fn stale_block(number: u8, blocks: u64) -> Option<Stale> {
     }
 }
 
+/// The number of the block that a delivery with these bytes in front is, which may be damaged.
+fn number_in(front: &[u8]) -> Option<u8> {
+    match front {
+        [SOH | STX, number, check, ..] if *number == !*check => Some(*number),
+        _ => None,
+    }
+}
+
 /// What a delivery with these bytes in front is that brought no further.
 fn stale_of(front: &[u8], blocks: u64) -> Option<Stale> {
     match front {
@@ -54,9 +64,16 @@ fn stale_of(front: &[u8], blocks: u64) -> Option<Stale> {
     }
 }
 
+/// Where the first 00 of a block's body is.
+fn zero_in(body: &[u8]) -> Option<usize>
+    ensures { IfSome result (λ end. end < length body.now) }
+{
+    body.iter().position(|&byte| byte == 0)
+}
+
 /// The text up to the first 00 of a block's body, where it is text.
 fn name_in(body: &[u8]) -> Option<&str> {
-    let end = body.iter().position(|&byte| byte == 0)?;
+    let end = zero_in(body)?;
     str::from_utf8(&body[..end]).ok()
 }
 
@@ -67,7 +84,7 @@ fn is_crammed(front: &[u8]) -> bool {
     match front {
         [SOH, 0, 0xff, body @ ..] => {
             let body = &body[..body.len().min(128)];
-            match body.iter().position(|&byte| byte == 0) {
+            match zero_in(body) {
                 Some(end) => body.len() - end <= 3,
                 None => true,
             }
@@ -147,27 +164,45 @@ impl<'t, E: Write + Drop, C: Clock + Drop> Receiving<'t, E, C> {
     /// These bytes came.
     fn hear(&mut self, bytes: &[u8]) {
         self.meter.hear(bytes);
+        self.keep(bytes);
+        if let Some(number) = number_in(self.prefix.as_slice()) {
+            self.meter.meet(number == 1);
+        }
+    }
+
+    /// Of these bytes those are kept that are among the first of the delivery.
+    fn keep(&mut self, bytes: &[u8]) {
         let room = PREFIX_BYTES.saturating_sub(self.prefix.len());
         let _ = self
             .prefix
             .extend_from_slice(&bytes[..room.min(bytes.len())]);
-        if let [SOH | STX, number, check, ..] = self.prefix.as_slice() {
-            if *number == !*check {
-                self.meter.meet(*number == 1);
-            }
-        }
+    }
+
+    /// What it wrote came back.
+    fn echo(&mut self) {
+        self.meter.echo(EchoMessage::ToReceiver);
     }
 
     /// A file of this header is begun.
     fn begin(&mut self, header: &Header) {
         self.last = String::from_str(self.alloc, header.name()).ok();
+        self.restart();
+        self.get_on();
+        self.meter.introduce(Coming(header));
+        self.meter.begin(header.name(), header.length());
+    }
+
+    /// Nothing of the file has come yet.
+    fn restart(&mut self) {
         self.awaited = Awaited::More;
         self.replies = 0;
         self.blocks = 0;
         self.done = 0;
-        self.get_on();
-        self.meter.introduce(Coming(header));
-        self.meter.begin(header.name(), header.length());
+    }
+
+    /// For the file the part of this name was removed.
+    fn replace(&mut self, part: &str) {
+        self.meter.tell(FileMessage::PartIsReplaced(part));
     }
 
     /// A block of so many bytes was stored.
@@ -184,6 +219,11 @@ impl<'t, E: Write + Drop, C: Clock + Drop> Receiving<'t, E, C> {
         let replies = self.blocks.saturating_add(self.besides);
         self.get_on();
         self.meter.finish(self.replies.saturating_sub(replies));
+    }
+
+    /// No file is shown any more.
+    fn close(&mut self) {
+        self.meter.end();
     }
 
     /// What came last brought it further.
@@ -277,7 +317,7 @@ impl<'s, 't, E: Write + Drop, C: Clock + Drop> PortWatch for ReceiveWatch<'s, 't
             return;
         }
         if let Ok(mut shown) = self.shown.try_borrow_mut() {
-            shown.meter.echo(EchoMessage::ToReceiver);
+            shown.echo();
         }
     }
 }
@@ -298,7 +338,7 @@ impl<'s, 't, E: Write + Drop, C: Clock + Drop> SinkWatch for ReceiveWatch<'s, 't
             return;
         }
         if let Ok(mut shown) = self.shown.try_borrow_mut() {
-            shown.meter.tell(FileMessage::PartIsReplaced(part));
+            shown.replace(part);
         }
     }
 
@@ -317,7 +357,7 @@ impl<'s, 't, E: Write + Drop, C: Clock + Drop> SinkWatch for ReceiveWatch<'s, 't
 
     fn ended(&mut self) {
         if let Ok(mut shown) = self.shown.try_borrow_mut() {
-            shown.meter.end();
+            shown.close();
         }
     }
 }

@@ -5,7 +5,7 @@ use crate::watched_port::PortWatch;
 use std::cell::RefCell;
 use std::io::Write;
 use std::time::Clock;
-use ym_header::{ZeroRef, read_borrowed};
+use ym_header::{HeaderRef, ZeroRef, read_borrowed};
 use ym_link::Wait;
 use ym_text::{Awaited, EchoMessage, Lately};
 
@@ -17,12 +17,23 @@ const LONG: u8 = 0x02;
 const EOT: u8 = 0x04;
 
 /// Where the frames of a sender are.
-#[derive(Clone, Copy, PartialEq, Eq)]
+#[derive(Clone, Copy)]
 enum SendStage {
     /// No file is under way, or its end was told.
     Between,
     /// The block of this number was written last, with so many bytes.
     In { number: u8, count: u64 },
+}
+
+/// The header of the file that begins with a block 0 of this body, where one does.
+fn header_in(body: &[u8]) -> Option<HeaderRef<'_>> {
+    if body.len() != 128 && body.len() != 1024 {
+        return None;
+    }
+    match read_borrowed(body) {
+        Ok(ZeroRef::File(header)) => Some(header),
+        _ => None,
+    }
 }
 
 /// What is shown of a sender: how far its files are, or whom it waits for. A block is done when the
@@ -55,15 +66,28 @@ impl<'t, E: Write + Drop, C: Clock + Drop> Sending<'t, E, C> {
         self.meter.lately()
     }
 
+    /// An answer is waited for.
+    fn wait(&mut self) {
+        let awaited = self.awaited;
+        self.meter.wait(awaited);
+    }
+
+    /// These bytes came.
+    fn hear(&mut self, bytes: &[u8]) {
+        self.meter.hear(bytes);
+    }
+
+    /// What it wrote came back.
+    fn echo(&mut self) {
+        self.meter.echo(EchoMessage::ToSender);
+    }
+
     /// A block 0 was written: the file before it is whole, and another one begins, or none.
     fn header(&mut self, body: &[u8]) {
         self.meter.finish(self.repeats);
         self.done = 0;
         self.repeats = 0;
-        if body.len() != 128 && body.len() != 1024 {
-            return;
-        }
-        if let Ok(ZeroRef::File(header)) = read_borrowed(body) {
+        if let Some(header) = header_in(body) {
             self.meter.begin(header.name(), header.length());
             self.stage = SendStage::In {
                 number: 0,
@@ -107,7 +131,7 @@ impl<'t, E: Write + Drop, C: Clock + Drop> Sending<'t, E, C> {
 
     /// An EOT was written.
     fn end_file(&mut self) {
-        if self.stage != SendStage::Between {
+        if let SendStage::In { .. } = self.stage {
             self.meter.get_on();
         }
         self.stage = SendStage::Between;
@@ -142,8 +166,7 @@ impl<'s, 't, E: Write + Drop, C: Clock + Drop> PortWatch for SendWatch<'s, 't, E
             return;
         }
         if let Ok(mut shown) = self.shown.try_borrow_mut() {
-            let awaited = shown.awaited;
-            shown.meter.wait(awaited);
+            shown.wait();
         }
     }
 
@@ -153,7 +176,7 @@ impl<'s, 't, E: Write + Drop, C: Clock + Drop> PortWatch for SendWatch<'s, 't, E
             return;
         }
         if let Ok(mut shown) = self.shown.try_borrow_mut() {
-            shown.meter.hear(bytes);
+            shown.hear(bytes);
         }
     }
 
@@ -170,7 +193,7 @@ impl<'s, 't, E: Write + Drop, C: Clock + Drop> PortWatch for SendWatch<'s, 't, E
             return;
         }
         if let Ok(mut shown) = self.shown.try_borrow_mut() {
-            shown.meter.echo(EchoMessage::ToSender);
+            shown.echo();
         }
     }
 }

@@ -40,18 +40,11 @@ pub enum Came {
     Other,
 }
 
-/// Whether these bytes are C alone.
-fn is_asks(bytes: &[u8]) -> bool
-    ensures { IsTrue result ↔ All IsAsk bytes.now }
+/// Whether these bytes are this one alone.
+fn is_only(bytes: &[u8], only: u8) -> bool
+    ensures { IsTrue result ↔ All (λ byte. byte ≡ only) bytes.now }
 {
-    bytes.iter().all(|&byte| byte == ASK)
-}
-
-/// Whether these bytes are G alone.
-fn is_streams(bytes: &[u8]) -> bool
-    ensures { IsTrue result ↔ All IsStream bytes.now }
-{
-    bytes.iter().all(|&byte| byte == STREAM)
+    bytes.iter().all(|&byte| byte == only)
 }
 
 /// Whether these bytes are NAK and C alone.
@@ -59,13 +52,6 @@ fn is_refusals(bytes: &[u8]) -> bool
     ensures { IsTrue result ↔ All IsRefusal bytes.now }
 {
     bytes.iter().all(|&byte| byte == NAK || byte == ASK)
-}
-
-/// Whether these bytes are ACK alone.
-fn is_takings(bytes: &[u8]) -> bool
-    ensures { IsTrue result ↔ All IsTaking bytes.now }
-{
-    bytes.iter().all(|&byte| byte == ACK)
 }
 
 /// Whether these bytes are characters of ASCII that are printed, or controls that stand in what a
@@ -176,16 +162,16 @@ impl Came {
         if bytes.is_empty() {
             return self;
         }
-        if is_asks(bytes) {
+        if is_only(bytes, ASK) {
             return self.with_asks();
         }
-        if is_streams(bytes) {
+        if is_only(bytes, STREAM) {
             return self.with_streams();
         }
         if is_refusals(bytes) {
             return self.with_refusals();
         }
-        if is_takings(bytes) {
+        if is_only(bytes, ACK) {
             return self.with_takings();
         }
         if is_text(bytes) {

@@ -40,17 +40,29 @@ impl fmt::Display for Allowed {
     }
 }
 
+/// When a file of this stamp was changed.
+fn changed_of(stamp: Stamp) -> Changed {
+    match stamp {
+        Stamp::Nothing => Changed(0),
+        Stamp::Time(time) | Stamp::TimeMode(time, _) => Changed(time),
+    }
+}
+
+/// Who may do what with a file of this stamp.
+fn allowed_of(stamp: Stamp) -> Allowed {
+    match stamp {
+        Stamp::TimeMode(_, mode) => Allowed(mode),
+        _ => Allowed(0),
+    }
+}
+
 impl fmt::Display for Coming<'_> {
     fn fmt<W: fmt::Write>(&self, f: &mut fmt::Formatter<W>) -> fmt::Result {
-        let (time, mode) = match self.0.stamp() {
-            Stamp::Nothing => (0, 0),
-            Stamp::Time(time) => (time, 0),
-            Stamp::TimeMode(time, mode) => (time, mode),
-        };
         let name = Shown(self.0.name());
         let length = self.0.length();
-        let changed = Changed(time);
-        let allowed = Allowed(mode);
+        let stamp = self.0.stamp();
+        let changed = changed_of(stamp);
+        let allowed = allowed_of(stamp);
         write!(f, "receiving {name}, {length} bytes{changed}{allowed}")
     }
 }

@@ -1,7 +1,7 @@
 //! Who may do what with a file, as people write it.
 
-ghost use Rattle.std.specs.Prelude.{Some};
-ghost use Rattle.ym_text.specs.Rights.{rights_text, class_text};
+ghost use Rattle.std.specs.Prelude.{◌≡◌, Some};
+ghost use Rattle.ym_text.specs.Rights.{rights_text, class_text, right_text};
 
 use std::fmt;
 
@@ -14,13 +14,20 @@ pub struct Rights(pub u32);
 #[derive(Clone, Copy)]
 struct Class(u32);
 
+/// The letter of a right where its bit, the lowest one here, is set.
+fn right(bits: u32, letter: &'static str) -> &'static str
+    ensures { result.now ≡ right_text bits letter.now }
+{
+    if bits % 2 == 1 { letter } else { "-" }
+}
+
 impl fmt::Display for Class {
     ghost output = { λ class. Some (class_text class.0) };
 
     fn fmt<W: fmt::Write>(&self, f: &mut fmt::Formatter<W>) -> fmt::Result {
-        let read = if self.0 / 4 % 2 == 1 { "r" } else { "-" };
-        let write = if self.0 / 2 % 2 == 1 { "w" } else { "-" };
-        let run = if self.0 % 2 == 1 { "x" } else { "-" };
+        let read = right(self.0 / 4, "r");
+        let write = right(self.0 / 2, "w");
+        let run = right(self.0, "x");
         write!(f, "{read}{write}{run}")
     }
 }

@@ -36,17 +36,36 @@ impl TtyMessage<'_> {
     }
 }
 
+/// That the terminal at this path is the line.
+fn write_opened<W: fmt::Write>(f: &mut fmt::Formatter<W>, path: &str) -> fmt::Result {
+    let shown = Shown(path);
+    write!(f, "the line is '{shown}'")
+}
+
+/// Why the terminal at this path is not the line.
+fn write_refused<W: fmt::Write, D: fmt::Display + Copy>(
+    f: &mut fmt::Formatter<W>,
+    path: &str,
+    why: D,
+) -> fmt::Result {
+    let path = Shown(path);
+    write!(f, "cannot open '{path}': {why}")
+}
+
 impl fmt::Display for TtyMessage<'_> {
     fn fmt<W: fmt::Write>(&self, f: &mut fmt::Formatter<W>) -> fmt::Result {
-        let path = Shown(self.path());
-        let why = match *self {
-            TtyMessage::Opened(_) => return write!(f, "the line is '{path}'"),
-            TtyMessage::Absent(_) => "no such device",
-            TtyMessage::Denied(_) => "permission denied; members of the group dialout may open it",
-            TtyMessage::Busy(_) => "another program has it open",
-            TtyMessage::NoTerminal(_) => "it is no terminal",
-            TtyMessage::Failed(_, why) => return write!(f, "cannot open '{path}': {why}"),
-        };
-        write!(f, "cannot open '{path}': {why}")
+        let path = self.path();
+        match *self {
+            TtyMessage::Opened(_) => write_opened(f, path),
+            TtyMessage::Absent(_) => write_refused(f, path, "no such device"),
+            TtyMessage::Denied(_) => write_refused(
+                f,
+                path,
+                "permission denied; members of the group dialout may open it",
+            ),
+            TtyMessage::Busy(_) => write_refused(f, path, "another program has it open"),
+            TtyMessage::NoTerminal(_) => write_refused(f, path, "it is no terminal"),
+            TtyMessage::Failed(_, why) => write_refused(f, path, why),
+        }
     }
 }
