@@ -7,12 +7,28 @@ mod header;
 
 use super::*;
 use std::alloc::{AllocError, Global};
+use std::fmt;
 use std::test::Fail;
 use ym_header::{Stamp, write_body};
 
 /// Whether two values are the same.
 fn same<T: PartialEq>(left: &T, right: &T) -> bool {
     left == right
+}
+
+/// Whether each of these bytes is this one.
+fn are_all(bytes: &[u8], byte: u8) -> bool {
+    for it in bytes {
+        if *it != byte {
+            return false;
+        }
+    }
+    true
+}
+
+/// Whether a value is shown as this text.
+fn says<D: fmt::Display>(alloc: Global, value: &D, want: &str) -> Result<bool, AllocError> {
+    Ok(value.to_string(alloc)?.as_str() == want)
 }
 
 /// How many bytes of a piece a reader took, and which item it made.

@@ -3,14 +3,14 @@
 //! The part behind `carry` has deliveries, `there:BYTES` and `back:BYTES`. With `carry:N` in front,
 //! carry number N fails.
 
-use super::spelled::bytes_of;
+use super::spelled::{bytes_of, in_digits};
 use super::words::{Unread, number};
 use std::alloc::Global;
 use ym_line::{Carrier, CarryFault, Direct, Way};
 
-/// A carry, of which a proof is told nothing.
-fn carries(
-    line: &mut Direct,
+/// A carry, of which a proof is told nothing, over a line of any kind.
+fn carries<C: Carrier>(
+    line: &mut C,
     way: Way,
     bytes: &[u8],
     into: &mut Vec<u8>,
@@ -21,7 +21,7 @@ fn carries(
 /// Puts behind the text each delivery that was handed on.
 pub fn push_record(text: &mut String, alloc: Global, line: &Direct) -> Result<(), Unread> {
     for one in line.handed() {
-        let bytes = hex::encode(alloc, one.bytes.as_slice())?;
+        let bytes = in_digits(alloc, one.bytes.as_slice())?;
         writeln!(text, "  {:?} [{bytes}]", one.way)?;
     }
     Ok(())

@@ -10,7 +10,7 @@ use super::spelled::bytes_of;
 use super::words::{Unread, counted, numbered};
 use std::alloc::{AllocError, Global};
 use ym_file::{Collector, Shape, block_at, block_count};
-use ym_frame::{Item, Size, encode};
+use ym_frame::{Block, Item, Size, encode};
 use ym_header::MOST_LENGTH;
 
 /// The second word of a case.
@@ -20,20 +20,34 @@ fn second(head: &str) -> Result<&str, Unread> {
 
 /// The frames of a file's blocks, one behind another, and how many blocks are long and how many
 /// short.
-fn frames(alloc: Global, bytes: &[u8], shape: Shape) -> Result<(Vec<u8>, u64, u64), Unread> {
+#[derive(Drop)]
+struct Frames {
+    bytes: Vec<u8>,
+    long: u64,
+    short: u64,
+}
+
+impl Frames {
+    /// Puts the frame of a block behind them.
+    fn push(&mut self, block: Block) -> Result<(), AllocError> {
+        match block.size() {
+            Size::Long => self.long = self.long.saturating_add(1),
+            Size::Short => self.short = self.short.saturating_add(1),
+        }
+        self.bytes
+            .extend_from_slice(encode(&Item::Block(block)).as_bytes())
+    }
+}
+
+/// Puts the frames of a file's blocks behind these.
+fn push_frames(frames: &mut Frames, bytes: &[u8], shape: Shape) -> Result<(), Unread> {
     if bytes.len() as u64 > MOST_LENGTH {
         return Err(Unread);
     }
-    let (mut all, mut long, mut short) = (Vec::new(alloc), 0u64, 0u64);
     for k in 0..block_count(bytes.len() as u64, shape) {
-        let block = block_at(bytes, shape, k + 1);
-        match block.size() {
-            Size::Long => long = long.saturating_add(1),
-            Size::Short => short = short.saturating_add(1),
-        }
-        all.extend_from_slice(encode(&Item::Block(block)).as_bytes())?;
+        frames.push(block_at(bytes, shape, k + 1))?;
     }
-    Ok((all, long, short))
+    Ok(())
 }
 
 /// Cuts a file, and tells what its blocks are, and whether they are what was said.
@@ -44,8 +58,14 @@ fn push_cut(
     shape: Shape,
     said: &[u8],
 ) -> Result<(), Unread> {
-    let (frames, long, short) = frames(alloc, bytes, shape)?;
-    let as_said = frames.as_slice() == said;
+    let mut frames = Frames {
+        bytes: Vec::new(alloc),
+        long: 0,
+        short: 0,
+    };
+    push_frames(&mut frames, bytes, shape)?;
+    let (long, short) = (frames.long, frames.short);
+    let as_said = frames.bytes.as_slice() == said;
     writeln!(text, "  {long} long, {short} short, as said: {as_said}")?;
     Ok(())
 }

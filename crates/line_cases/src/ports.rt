@@ -10,19 +10,88 @@
 //! - `peer`, for the calls that promise against any peer;
 //! - `write:N`, for a port whose write number N fails.
 
-use super::spelled::bytes_of;
+use super::spelled::{are_spelled, bytes_of, in_digits};
 use super::words::{Unread, counted, has, number};
 use std::alloc::Global;
-use ym_file::{MemSource, Shape};
+use ym_file::{MemSource, Shape, Sink, Source};
 use ym_frame::Bytes;
 use ym_header::Stamp;
 use ym_link::{
-    EndFault, Event, Receiver, ScriptPort, SendFile, Sender, SourceFile, receive_over, send_over,
+    EndFault, Event, Port, Receiver, ReceiverInto, ScriptPort, SendFile, Sender, SenderFrom,
+    SourceFile, receive_over, send_over,
 };
 use ym_pair::{receive_from_any_peer, send_to_any_peer};
 
 /// How an engine returned.
 type Answer = Result<(), EndFault>;
+
+// Ends are made and called at ports, sources and sinks of any kind: a call is dear to prove where
+// it is made of one kind. These functions tell a proof nothing, and so cost it little.
+
+/// A sender of a batch.
+fn sender_from<S: Source + Drop>(
+    batch: Vec<SourceFile<S>>,
+    shape: Shape,
+) -> Result<SenderFrom<S>, Unread> {
+    SenderFrom::new(batch, shape).ok().ok_or(Unread)
+}
+
+fn run_sender<P: Port, S: Source>(
+    port: &mut P,
+    sender: &mut SenderFrom<S>,
+    to_any_peer: bool,
+) -> Answer {
+    if to_any_peer {
+        send_to_any_peer(port, sender)
+    } else {
+        send_over(port, sender)
+    }
+}
+
+fn run_receiver<P: Port, K: Sink>(
+    port: &mut P,
+    receiver: &mut ReceiverInto<K>,
+    from_any_peer: bool,
+) -> Answer {
+    if from_any_peer {
+        receive_from_any_peer(port, receiver)
+    } else {
+        receive_over(port, receiver)
+    }
+}
+
+/// Sends and receives by a call for both.
+fn run_both<P: Port, S: Source, Q: Port, K: Sink>(
+    near: &mut P,
+    sender: &mut SenderFrom<S>,
+    far: &mut Q,
+    receiver: &mut ReceiverInto<K>,
+) -> (Answer, Answer) {
+    ym_pair::send_and_receive(near, sender, far, receiver)
+}
+
+/// Puts behind the text how a sender ended.
+fn push_sender<S: Source>(
+    text: &mut String,
+    answer: Answer,
+    sender: &SenderFrom<S>,
+) -> Result<(), Unread> {
+    let (state, done) = (sender.state(), sender.done());
+    write!(text, "  {answer:?} {state:?}, {done} done")?;
+    Ok(())
+}
+
+/// Puts behind the text how a receiver ended, which keeps so many files.
+fn push_receiver<K: Sink>(
+    text: &mut String,
+    answer: Answer,
+    receiver: &ReceiverInto<K>,
+    files: usize,
+) -> Result<(), Unread> {
+    let state = receiver.state();
+    write!(text, "  {answer:?} {state:?}, {files} kept")?;
+    Ok(())
+}
 
 /// The shape of a sender's blocks.
 pub fn shape_of(head: &str) -> Shape {
@@ -54,7 +123,7 @@ pub fn batch_of(alloc: Global, head: &str) -> Result<Vec<SendFile>, Unread> {
 /// The sender of a case.
 pub fn sender_of(alloc: Global, head: &str) -> Result<Sender, Unread> {
     let batch = batch_of(alloc, head)?;
-    Sender::new(batch, shape_of(head)).ok().ok_or(Unread)
+    sender_from(batch, shape_of(head))
 }
 
 /// One thing that comes.
@@ -79,8 +148,22 @@ fn port_of(alloc: Global, head: &str, coming: &str) -> Result<ScriptPort, Unread
     Ok(ScriptPort::new(alloc, events, number(head, "write")))
 }
 
-/// Puts behind the text what a port has: its faults, and whether what was written is what was said,
-/// or what it is.
+/// Puts behind the text whether what was written is what was said, or what it is.
+fn push_written(
+    text: &mut String,
+    alloc: Global,
+    written: &[u8],
+    said: Option<&&str>,
+) -> Result<(), Unread> {
+    if are_spelled(alloc, written, said)? {
+        text.push_str("as said\n")?;
+    } else {
+        writeln!(text, "wrote {}", in_digits(alloc, written)?)?;
+    }
+    Ok(())
+}
+
+/// Puts behind the text what a port has: its faults, and what was written.
 fn push_port(
     text: &mut String,
     alloc: Global,
@@ -88,37 +171,13 @@ fn push_port(
     said: Option<&&str>,
 ) -> Result<(), Unread> {
     write!(text, ", {} faults, ", port.failures())?;
-    let written = port.written();
-    match said {
-        Some(said) if bytes_of(alloc, said)?.as_slice() == written => writeln!(text, "as said")?,
-        _ => writeln!(text, "wrote {}", hex::encode(alloc, written)?)?,
-    }
-    Ok(())
-}
-
-/// Puts behind the text how a sender ended. What it and the next ones take tells a proof nothing,
-/// and so costs it little.
-fn push_sender(text: &mut String, answer: Answer, sender: &Sender) -> Result<(), Unread> {
-    write!(
-        text,
-        "  {answer:?} {:?}, {} done",
-        sender.state(),
-        sender.done()
-    )?;
-    Ok(())
-}
-
-/// Puts behind the text how a receiver ended.
-fn push_receiver(text: &mut String, answer: Answer, receiver: &Receiver) -> Result<(), Unread> {
-    let (state, files) = (receiver.state(), receiver.files().len());
-    write!(text, "  {answer:?} {state:?}, {files} kept")?;
-    Ok(())
+    push_written(text, alloc, port.written(), said)
 }
 
 /// Puts behind the text the files that a receiver keeps.
 fn push_files(text: &mut String, alloc: Global, receiver: &Receiver) -> Result<(), Unread> {
     for file in receiver.files() {
-        let bytes = hex::encode(alloc, file.bytes())?;
+        let bytes = in_digits(alloc, file.bytes())?;
         writeln!(text, "  file {} {bytes}", file.name())?;
     }
     Ok(())
@@ -147,65 +206,26 @@ fn sending_of(alloc: Global, head: &str, coming: &str) -> Result<Sending, Unread
     })
 }
 
-fn receiving_of(alloc: Global, head: &str, coming: &str) -> Result<Receiving, Unread> {
-    let port = port_of(alloc, head, coming)?;
-    let receiver = if has(head, "once") {
+fn receiver_of(alloc: Global, head: &str) -> Receiver {
+    if has(head, "once") {
         Receiver::single(alloc)
     } else {
         Receiver::new(alloc)
-    };
-    Ok(Receiving { port, receiver })
+    }
 }
 
-/// A sender and a receiver that run together.
-#[derive(Drop)]
-struct Both {
-    near: Sending,
-    far: Receiving,
-}
-
-fn both_of(alloc: Global, head: &str, near: &str, far: &str) -> Result<Both, Unread> {
-    let near = sending_of(alloc, head, near)?;
-    Ok(Both {
-        near,
-        far: receiving_of(alloc, head, far)?,
+fn receiving_of(alloc: Global, head: &str, coming: &str) -> Result<Receiving, Unread> {
+    Ok(Receiving {
+        port: port_of(alloc, head, coming)?,
+        receiver: receiver_of(alloc, head),
     })
-}
-
-fn run_sender(end: &mut Sending, to_any_peer: bool) -> Answer {
-    let Sending { port, sender } = end;
-    if to_any_peer {
-        send_to_any_peer(port, sender)
-    } else {
-        send_over(port, sender)
-    }
-}
-
-fn run_receiver(end: &mut Receiving, from_any_peer: bool) -> Answer {
-    let Receiving { port, receiver } = end;
-    if from_any_peer {
-        receive_from_any_peer(port, receiver)
-    } else {
-        receive_over(port, receiver)
-    }
-}
-
-/// Sends and receives by a call for both. What it answers tells a proof nothing.
-fn run_both(ends: &mut Both) -> (Answer, Answer) {
-    let Both { near, far } = ends;
-    ym_pair::send_and_receive(
-        &mut near.port,
-        &mut near.sender,
-        &mut far.port,
-        &mut far.receiver,
-    )
 }
 
 /// Sends what a case has, and tells how it ended.
 pub fn send(text: &mut String, alloc: Global, head: &str, parts: &[&str]) -> Result<(), Unread> {
     let coming = parts.first().ok_or(Unread)?;
     let mut end = sending_of(alloc, head, coming)?;
-    let answer = run_sender(&mut end, has(head, "peer"));
+    let answer = run_sender(&mut end.port, &mut end.sender, has(head, "peer"));
     push_sender(text, answer, &end.sender)?;
     push_port(text, alloc, &end.port, parts.get(1))
 }
@@ -218,7 +238,7 @@ fn push_received(
     end: &Receiving,
     said: Option<&&str>,
 ) -> Result<(), Unread> {
-    push_receiver(text, answer, &end.receiver)?;
+    push_receiver(text, answer, &end.receiver, end.receiver.files().len())?;
     push_port(text, alloc, &end.port, said)?;
     push_files(text, alloc, &end.receiver)
 }
@@ -227,22 +247,27 @@ fn push_received(
 pub fn receive(text: &mut String, alloc: Global, head: &str, parts: &[&str]) -> Result<(), Unread> {
     let coming = parts.first().ok_or(Unread)?;
     let mut end = receiving_of(alloc, head, coming)?;
-    let answer = run_receiver(&mut end, has(head, "peer"));
+    let answer = run_receiver(&mut end.port, &mut end.receiver, has(head, "peer"));
     push_received(text, alloc, answer, &end, parts.get(1))
 }
 
-/// Lets these two ends run, and puts behind the text how they ended.
+/// Lets these two ends run, and puts behind the text how they ended, with what was said of each.
 fn push_both(
     text: &mut String,
     alloc: Global,
-    ends: &mut Both,
-    said: &&str,
-    far_said: &&str,
+    near: &mut Sending,
+    far: &mut Receiving,
+    (said, far_said): (&&str, &&str),
 ) -> Result<(), Unread> {
-    let (sent, received) = run_both(ends);
-    push_sender(text, sent, &ends.near.sender)?;
-    push_port(text, alloc, &ends.near.port, Some(said))?;
-    push_received(text, alloc, received, &ends.far, Some(far_said))
+    let (sent, received) = run_both(
+        &mut near.port,
+        &mut near.sender,
+        &mut far.port,
+        &mut far.receiver,
+    );
+    push_sender(text, sent, &near.sender)?;
+    push_port(text, alloc, &near.port, Some(said))?;
+    push_received(text, alloc, received, far, Some(far_said))
 }
 
 /// Sends and receives what a case has, by a call for both, and tells how they ended.
@@ -255,6 +280,7 @@ pub fn send_and_receive(
     let [coming, said, far_coming, far_said] = parts else {
         return Err(Unread);
     };
-    let mut ends = both_of(alloc, head, coming, far_coming)?;
-    push_both(text, alloc, &mut ends, said, far_said)
+    let mut near = sending_of(alloc, head, coming)?;
+    let mut far = receiving_of(alloc, head, far_coming)?;
+    push_both(text, alloc, &mut near, &mut far, (said, far_said))
 }

@@ -15,12 +15,12 @@ use super::ports::{batch_of, sender_of, shape_of};
 use super::spelled::bytes_of;
 use super::words::{Unread, counted, has, number};
 use std::alloc::Global;
-use ym_file::MemSink;
+use ym_file::{MemSink, Sink, Source};
 use ym_frame::Bytes;
 use ym_line::{
-    Delivery, Direct, LineFault, Round, Trace, round, run, trace_text, whole_rounds_needed,
+    Carrier, Delivery, Direct, LineFault, Round, Trace, round, run, trace_text, whole_rounds_needed,
 };
-use ym_link::{Confirm, Receiver, SendFile, Sender};
+use ym_link::{Confirm, Received, Receiver, ReceiverInto, SendFile, Sender, SenderFrom};
 
 /// Two ends, and the line between them.
 #[derive(Drop)]
@@ -94,26 +94,52 @@ fn rounds_of(alloc: Global, part: &str) -> Result<Vec<Round>, Unread> {
     Ok(rounds)
 }
 
-/// Plays rounds to these ends. What it and the next one answer tells a proof nothing, and so costs
-/// it little.
+// Rounds are played to ends over files of any kind, and over a line of any kind: a call is dear to
+// prove where it is made of one kind. These functions tell a proof nothing, and so cost it little.
+
+/// Plays rounds.
+fn run_over<S: Source, K: Sink, C: Carrier>(
+    alloc: Global,
+    sender: &mut SenderFrom<S>,
+    receiver: &mut ReceiverInto<K>,
+    line: &mut C,
+    rounds: &[Round],
+) -> Result<Trace, LineFault> {
+    run(alloc, sender, receiver, rounds, line)
+}
+
+/// Plays one round.
+fn round_over<S: Source, K: Sink, C: Carrier>(
+    alloc: Global,
+    sender: &mut SenderFrom<S>,
+    receiver: &mut ReceiverInto<K>,
+    line: &mut C,
+    one: &Round,
+) -> Result<(), LineFault> {
+    match round(alloc, sender, receiver, one, line) {
+        Ok(_) => Ok(()),
+        Err(fault) => Err(fault),
+    }
+}
+
+/// Plays rounds to these ends.
 fn run_all(alloc: Global, ends: &mut Ends, rounds: &[Round]) -> Result<Trace, LineFault> {
     let Ends {
         sender,
         receiver,
         line,
     } = ends;
-    run(alloc, sender, receiver, rounds, line)
+    run_over(alloc, sender, receiver, line, rounds)
 }
 
-/// Plays one round.
+/// Plays one round to these ends.
 fn run_one(alloc: Global, ends: &mut Ends, one: &Round) -> Result<(), LineFault> {
     let Ends {
         sender,
         receiver,
         line,
     } = ends;
-    round(alloc, sender, receiver, one, line)?;
-    Ok(())
+    round_over(alloc, sender, receiver, line, one)
 }
 
 /// Puts behind the text what comes of a run.
@@ -144,10 +170,15 @@ fn push_each(
     Ok(())
 }
 
-/// Whether each file that the receiver keeps is the file that was sent in its place.
-fn are_as_sent(receiver: &Receiver, batch: &[SendFile]) -> bool {
-    for (file, sent) in receiver.files().iter().zip(batch) {
-        if file.name() != sent.header().name() || file.bytes() != sent.bytes() {
+/// Whether a file that a receiver keeps is this one.
+fn is_as_sent(file: &Received, sent: &SendFile) -> bool {
+    file.name() == sent.header().name() && file.bytes() == sent.bytes()
+}
+
+/// Whether each file that a receiver keeps is the file that was sent in its place.
+fn are_as_sent(files: &[Received], batch: &[SendFile]) -> bool {
+    for (file, sent) in files.iter().zip(batch) {
+        if !is_as_sent(file, sent) {
             return false;
         }
     }
@@ -157,8 +188,9 @@ fn are_as_sent(receiver: &Receiver, batch: &[SendFile]) -> bool {
 /// Puts behind the text what was handed on and is kept.
 fn push_ends(text: &mut String, alloc: Global, head: &str, ends: &Ends) -> Result<(), Unread> {
     let batch = batch_of(alloc, head)?;
-    let as_sent = are_as_sent(&ends.receiver, batch.as_slice());
-    let (handed, kept) = (ends.line.handed().len(), ends.receiver.files().len());
+    let files = ends.receiver.files();
+    let as_sent = are_as_sent(files, batch.as_slice());
+    let (handed, kept) = (ends.line.handed().len(), files.len());
     writeln!(text, "  handed on {handed}, kept {kept} as sent: {as_sent}")?;
     if has(head, "record") {
         push_record(text, alloc, &ends.line)?;

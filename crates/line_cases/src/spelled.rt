@@ -9,7 +9,7 @@
 //! - hexadecimal digits.
 
 use super::words::{Unread, counted};
-use std::alloc::Global;
+use std::alloc::{AllocError, Global};
 use ym_frame::{Block, Item, encode};
 use ym_header::{Header, Stamp, write, write_end};
 
@@ -28,7 +28,15 @@ fn control(name: &str) -> Option<&'static [u8]> {
 
 /// The bytes of digits.
 fn digits(alloc: Global, text: &str) -> Result<Vec<u8>, Unread> {
-    hex::decode(alloc, text).ok().ok_or(Unread)
+    match hex::decode(alloc, text) {
+        Ok(bytes) => Ok(bytes),
+        Err(_) => Err(Unread),
+    }
+}
+
+/// Bytes, as digits.
+pub fn in_digits(alloc: Global, bytes: &[u8]) -> Result<String, AllocError> {
+    hex::encode(alloc, bytes)
 }
 
 /// The frame of a block.
@@ -102,4 +110,12 @@ pub fn bytes_of(alloc: Global, text: &str) -> Result<Vec<u8>, Unread> {
         push_part(&mut all, alloc, part)?;
     }
     Ok(all)
+}
+
+/// Whether a text is there, and spells these bytes.
+pub fn are_spelled(alloc: Global, bytes: &[u8], text: Option<&&str>) -> Result<bool, Unread> {
+    match text {
+        Some(text) => Ok(bytes_of(alloc, text)?.as_slice() == bytes),
+        None => Ok(false),
+    }
 }

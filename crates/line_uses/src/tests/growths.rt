@@ -1,19 +1,38 @@
 //! Growths of memory that are refused, each in turn: of an engine over a port, and of a run of
 //! rounds.
 
+use super::{opening, play, rounds_of, same, sender_of};
 use std::alloc::{AllocError, Global};
 use std::test::Fail;
-use ym_file::Shape;
-use ym_frame::{Bytes, FrameBuf, Item, encode};
-use ym_header::{Header, HeaderFault, Stamp, write};
-use ym_line::{Delivery, Direct, LineFault, Round, Trace, run};
+use ym_file::{Sink, Source};
+use ym_frame::{Bytes, FrameBuf, encode};
+use ym_header::{HeaderFault, Stamp};
+use ym_line::{Direct, LineFault, Round, Trace};
 use ym_link::{
-    EndFault, Event, Receiver, RecvState, ScriptPort, SendFile, SendState, Sender, receive_over,
+    EndFault, Event, Port, Received, Receiver, ReceiverInto, RecvState, ScriptPort, SendFile,
+    SendState, Sender, SenderFrom, receive_over,
 };
 
+// Engines and ends are called at ports, sources and sinks of any kind: a call is dear to prove
+// where it is made of one kind. These functions tell a proof nothing, and so cost it little.
+
+/// Receives over a port.
+fn receive<P: Port, K: Sink>(port: &mut P, receiver: &mut ReceiverInto<K>) -> Result<(), EndFault> {
+    receive_over(port, receiver)
+}
+
+/// Whether a sender is in this state.
+fn stands<S: Source>(sender: &SenderFrom<S>, state: SendState) -> bool {
+    sender.state() == state
+}
+
+/// Whether a receiver is in this state.
+fn is_left<K: Sink>(receiver: &ReceiverInto<K>, state: RecvState) -> bool {
+    receiver.state() == state
+}
+
 fn header_of(alloc: Global) -> Result<FrameBuf, HeaderFault> {
-    let header = Header::new(alloc, "a", 12, Stamp::Nothing)?;
-    Ok(encode(&Item::Block(write(&header))))
+    Ok(encode(&opening(alloc, 12)?))
 }
 
 /// A port to which these bytes come.
@@ -57,11 +76,6 @@ fn header_port(alloc: Global) -> Result<ScriptPort, Fail> {
     Ok(port_again(alloc, header.as_bytes())?)
 }
 
-/// Receives over a port. What it answers tells a proof nothing, and so costs it little.
-fn receive(port: &mut ScriptPort, receiver: &mut Receiver) -> Result<(), EndFault> {
-    receive_over(port, receiver)
-}
-
 /// Each growth may be refused, as `rt try --test --fail-alloc N` does for the Nth: of the port's
 /// record, which is a failure of the port, and of the header, at which the receiver stays as it is
 /// and nothing is written. Where a growth before the call is refused, the call is made again.
@@ -71,7 +85,7 @@ fn of_an_engine(rt: HostRuntime) -> Result<(), Fail> {
     let mut receiver = Receiver::new(rt.alloc());
     let answer = receive(&mut port, &mut receiver);
     assert!(rt; tells_of_refusal(answer, &port));
-    assert!(rt; receiver.state() == RecvState::Running);
+    assert!(rt; is_left(&receiver, RecvState::Running));
     Ok(())
 }
 
@@ -94,37 +108,24 @@ fn batch_of(alloc: Global, bytes: &[u8]) -> Result<Vec<SendFile>, Fail> {
 fn ends_of(alloc: Global, bytes: &[u8]) -> Result<Ends, Fail> {
     let batch = batch_of(alloc, bytes)?;
     Ok(Ends {
-        sender: Sender::new(batch, Shape::Mixed).map_err(|_| "batch")?,
+        sender: sender_of(batch).ok_or("batch")?,
         receiver: Receiver::new(alloc),
         line: Direct::new(alloc),
     })
 }
 
-/// Six whole rounds.
-fn rounds_of(alloc: Global) -> Result<Vec<Round>, AllocError> {
-    let mut rounds = Vec::new(alloc);
-    for _ in 0..6 {
-        rounds.push(Round {
-            there: Delivery::Whole,
-            back: Delivery::Whole,
-        })?;
-    }
-    Ok(rounds)
-}
-
-/// Plays rounds. What it answers tells a proof nothing, and so costs it little.
-fn play(alloc: Global, ends: &mut Ends, rounds: &[Round]) -> Result<Trace, LineFault> {
+/// Plays rounds to these ends.
+fn play_to(alloc: Global, ends: &mut Ends, rounds: &[Round]) -> Result<Trace, LineFault> {
     let Ends {
         sender,
         receiver,
         line,
     } = ends;
-    run(alloc, sender, receiver, rounds, line)
+    play(alloc, sender, receiver, line, rounds)
 }
 
 /// Whether the file is committed, and nothing else.
-fn has_file(receiver: &Receiver, bytes: &[u8]) -> bool {
-    let files = receiver.files();
+fn has_file(files: &[Received], bytes: &[u8]) -> bool {
     match files.first() {
         Some(file) => files.len() == 1 && file.name() == "a.txt" && file.bytes() == bytes,
         None => false,
@@ -134,30 +135,31 @@ fn has_file(receiver: &Receiver, bytes: &[u8]) -> bool {
 /// Whether a fault is want of memory, the ends run on, and the committed files are none or the
 /// whole one.
 fn holds(ends: &Ends, fault: LineFault, bytes: &[u8]) -> bool {
-    let kept = ends.receiver.files().is_empty() || has_file(&ends.receiver, bytes);
-    fault == LineFault::Memory && ends.sender.state() == SendState::Running && kept
+    let files = ends.receiver.files();
+    let kept = files.is_empty() || has_file(files, bytes);
+    same(&fault, &LineFault::Memory) && stands(&ends.sender, SendState::Running) && kept
 }
 
 /// Whether a run comes to its end, at once or behind a growth that was refused, as it then says.
 fn runs(alloc: Global, ends: &mut Ends, rounds: &[Round], bytes: &[u8]) -> bool {
-    match play(alloc, ends, rounds) {
+    match play_to(alloc, ends, rounds) {
         Ok(_) => true,
-        Err(fault) => holds(ends, fault, bytes) && play(alloc, ends, rounds).is_ok(),
+        Err(fault) => holds(ends, fault, bytes) && play_to(alloc, ends, rounds).is_ok(),
     }
 }
 
 /// Whether both ends have finished, and the file is committed.
 fn are_done(ends: &Ends, bytes: &[u8]) -> bool {
-    ends.sender.state() == SendState::Finished
-        && ends.receiver.state() == RecvState::Finished
-        && has_file(&ends.receiver, bytes)
+    stands(&ends.sender, SendState::Finished)
+        && is_left(&ends.receiver, RecvState::Finished)
+        && has_file(ends.receiver.files(), bytes)
 }
 
 /// Whichever growth of a run is refused, it says so, and the ends go on to the end.
 #[test]
 fn of_a_run(rt: HostRuntime) -> Result<(), Fail> {
     let bytes = [b'A'; 128];
-    let rounds = rounds_of(rt.alloc())?;
+    let rounds = rounds_of(rt.alloc(), 6, true)?;
     let mut ends = ends_of(rt.alloc(), &bytes)?;
     assert!(rt; runs(rt.alloc(), &mut ends, rounds.as_slice(), &bytes));
     assert!(rt; are_done(&ends, &bytes));

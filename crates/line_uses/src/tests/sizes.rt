@@ -1,36 +1,24 @@
 //! Sizes at which nothing gives up: want of memory is told only where a growth was refused.
 
+use super::{opening, play, rounds_of, same, sender_of};
 use std::alloc::{AllocError, Global};
 use std::test::Fail;
-use ym_file::{Collector, Shape};
+use ym_file::{Collector, Sink};
 use ym_frame::{Block, Item, Reply};
-use ym_header::{Header, Stamp, write};
-use ym_line::{Delivery, Direct, Round, run};
-use ym_link::{Heard, Receiver, SendFile, Sender};
-
-/// So many rounds in which nothing arrives.
-fn lost_rounds(alloc: Global, count: u32) -> Result<Vec<Round>, AllocError> {
-    let mut rounds = Vec::new(alloc);
-    for _ in 0..count {
-        rounds.push(Round {
-            there: Delivery::Lost,
-            back: Delivery::Lost,
-        })?;
-    }
-    Ok(rounds)
-}
+use ym_line::{Direct, Round};
+use ym_link::{Heard, Receiver, ReceiverInto, SendFile, Sender};
 
 /// A sender of no file.
-fn new_sender(alloc: Global) -> Result<Sender, Fail> {
+fn new_sender(alloc: Global) -> Option<Sender> {
     let batch: Vec<SendFile> = Vec::new(alloc);
-    Ok(Sender::new(batch, Shape::Mixed).map_err(|_| "batch")?)
+    sender_of(batch)
 }
 
 /// How many of these rounds are seen on a line.
 fn seen(alloc: Global, line: &mut Direct, rounds: &[Round]) -> Result<usize, Fail> {
-    let mut sender = new_sender(alloc)?;
+    let mut sender = new_sender(alloc).ok_or("batch")?;
     let mut receiver = Receiver::new(alloc);
-    let trace = run(alloc, &mut sender, &mut receiver, rounds, line)?;
+    let trace = play(alloc, &mut sender, &mut receiver, line, rounds)?;
     Ok(trace.rounds.len())
 }
 
@@ -43,8 +31,8 @@ fn counts(alloc: Global, rounds: &[Round]) -> Result<(usize, usize), Fail> {
 
 #[test]
 fn a_run_of_60_001_rounds(rt: HostRuntime) -> Result<(), Fail> {
-    let rounds = lost_rounds(rt.alloc(), 60_001)?;
-    assert!(rt; counts(rt.alloc(), rounds.as_slice())? == (60_001, 120_002));
+    let rounds = rounds_of(rt.alloc(), 60_001, false)?;
+    assert!(rt; same(&counts(rt.alloc(), rounds.as_slice())?, &(60_001, 120_002)));
     Ok(())
 }
 
@@ -63,25 +51,23 @@ fn a_collector_of_3_000_000_bytes(rt: HostRuntime) -> Result<(), Fail> {
     Ok(())
 }
 
-/// The block 0 of a file of this length.
-fn opening(alloc: Global, length: u64) -> Result<Heard, Fail> {
-    let header = Header::new(alloc, "a", length, Stamp::Nothing)?;
-    Ok(Heard::Item(Item::Block(write(&header))))
-}
-
 /// The first block of a file.
 fn first_block() -> Result<Heard, Fail> {
     Ok(Heard::Item(Item::Block(Block::new(1, &[7; 1024])?)))
 }
 
 /// Whether a delivery is answered by this reply.
-fn answers(receiver: &mut Receiver, heard: &Heard, reply: Reply) -> Result<bool, AllocError> {
+fn answers<K: Sink>(
+    receiver: &mut ReceiverInto<K>,
+    heard: &Heard,
+    reply: Reply,
+) -> Result<bool, AllocError> {
     Ok(receiver.hear(heard)? == reply)
 }
 
 /// Whether a receiver takes the block 0 of a file of this length.
 fn takes_opening(alloc: Global, receiver: &mut Receiver, length: u64) -> Result<bool, Fail> {
-    let heard = opening(alloc, length)?;
+    let heard = Heard::Item(opening(alloc, length)?);
     Ok(answers(receiver, &heard, Reply::AckStart)?)
 }
 

@@ -1,30 +1,39 @@
 //! A receiver.
 
-use super::line::{ACK_START, BLOCK_1, OPENING, START, end_over, has_waited, hears, looks};
+use super::line::{ACK_START, Act, Case, OPENING, START, holds};
 use std::test::Fail;
-use ym_link::{Port, Wait};
+use ym_link::Wait;
 use ym_port::Role;
 
-#[test]
-fn its_own_reply_is_not_heard(rt: HostRuntime) -> Result<(), Fail> {
-    let moments = [1000, 1000, 1012];
-    let mut echoed = START.to_vec(rt.alloc())?;
-    echoed.extend_from_slice(OPENING)?;
-    let mut port = end_over(rt.alloc(), Role::Receiver, &moments, &[echoed.as_slice()])?;
-    assert!(rt; port.write(START).is_ok());
-    assert!(rt; hears(&mut port, Wait::Reply, OPENING));
-    Ok(())
-}
+static CASES: [Case; 2] = [
+    Case {
+        name: "its own reply is not heard: it comes back, and an opening behind it",
+        role: Role::Receiver,
+        moments: &[1000, 1000, 1012],
+        pieces: &[b"\x43\x01\x00\xFF\x61\x1A"],
+        acts: &[Act::Writes(START), Act::Hears(Wait::Reply, OPENING)],
+        waited: None,
+        looks: None,
+    },
+    Case {
+        name: "the rest of a delivery is waited for since it came: block 1 comes in two pieces",
+        role: Role::Receiver,
+        moments: &[1000, 1000, 1012, 1500],
+        pieces: &[b"\x01\x01", b"\xFE\x06\x1A"],
+        acts: &[
+            Act::Writes(ACK_START),
+            Act::Hears(Wait::Reply, b"\x01\x01"),
+            Act::Hears(Wait::Within, b"\xFE\x06\x1A"),
+        ],
+        waited: Some(&[3000, 1000]),
+        looks: Some(4),
+    },
+];
 
 #[test]
-fn the_rest_of_a_delivery_is_waited_for_since_it_came(rt: HostRuntime) -> Result<(), Fail> {
-    let moments = [1000, 1000, 1012, 1500];
-    let pieces: [&[u8]; 2] = [&BLOCK_1[..2], &BLOCK_1[2..]];
-    let mut port = end_over(rt.alloc(), Role::Receiver, &moments, &pieces)?;
-    assert!(rt; port.write(ACK_START).is_ok());
-    assert!(rt; hears(&mut port, Wait::Reply, &BLOCK_1[..2]));
-    assert!(rt; hears(&mut port, Wait::Within, &BLOCK_1[2..]));
-    assert!(rt; has_waited(&port, &[3000, 1000]));
-    assert_eq!(rt; looks(&port), 4);
+fn a_receiver_over_a_line(rt: HostRuntime) -> Result<(), Fail> {
+    for case in &CASES {
+        assert!(rt; holds(rt.alloc(), case)?, "{}", case.name);
+    }
     Ok(())
 }
