@@ -2,6 +2,7 @@
 
 use super::folders::{holds, is_removed};
 use super::steps::comes_to_other;
+use std::alloc::AllocError;
 use std::os::unix::fs::symlink;
 use std::path::PathBuf;
 use std::{fs, io};
@@ -35,23 +36,21 @@ pub(super) enum Act<'a> {
     OtherStores(&'a str, &'a [u8]),
 }
 
-/// The path of this name, and what is put behind it, in the folder.
-pub(super) fn path_of(
-    rt: &HostRuntime,
-    dir: &PathBuf,
-    name: &str,
-    behind: &str,
-) -> io::Result<PathBuf> {
-    let whole = format!(in rt.alloc(); "{name}{behind}")?;
-    Ok(dir.join(rt.alloc(), whole.as_str())?)
+/// The path of this name in the folder.
+pub(super) fn path_of(rt: &HostRuntime, dir: &PathBuf, name: &str) -> Result<PathBuf, AllocError> {
+    dir.join(rt.alloc(), name)
 }
 
-/// Puts a link to the file of the second name in the place of the first, which gets that name.
-fn replace(rt: &HostRuntime, dir: &PathBuf, name: &str, other: &str) -> io::Result<()> {
-    let path = path_of(rt, dir, name, "")?;
-    let other = path_of(rt, dir, other, "")?;
-    fs::rename(rt, &path, &other)?;
-    symlink(rt, other.as_str(), path.as_str())
+/// Whether a link to the file of the second name comes in the place of the first, which gets that
+/// name.
+fn replaces(rt: &HostRuntime, dir: &PathBuf, name: &str, other: &str) -> bool {
+    match (path_of(rt, dir, name), path_of(rt, dir, other)) {
+        (Ok(path), Ok(other)) => {
+            fs::rename(rt, &path, &other).is_ok()
+                && symlink(rt, other.as_str(), path.as_str()).is_ok()
+        }
+        _ => false,
+    }
 }
 
 /// Something that is done with a path.
@@ -65,19 +64,26 @@ enum Deed<'a> {
     MakeFolder,
 }
 
-/// Does this with the path of this name.
-fn do_at(rt: &HostRuntime, dir: &PathBuf, name: &str, deed: Deed<'_>) -> io::Result<()> {
-    let path = path_of(rt, dir, name, "")?;
+/// Whether this can be done with a path.
+fn is_done(rt: &HostRuntime, path: &PathBuf, deed: Deed<'_>) -> bool {
     match deed {
-        Deed::Write(text) => fs::write(rt, &path, text),
-        Deed::Remove => fs::remove_file(rt, &path),
-        Deed::MakeFolder => fs::create_dir(rt, &path),
+        Deed::Write(text) => fs::write(rt, path, text).is_ok(),
+        Deed::Remove => fs::remove_file(rt, path).is_ok(),
+        Deed::MakeFolder => fs::create_dir(rt, path).is_ok(),
+    }
+}
+
+/// The same, with the path of this name.
+fn is_done_at(rt: &HostRuntime, dir: &PathBuf, name: &str, deed: Deed<'_>) -> bool {
+    match path_of(rt, dir, name) {
+        Ok(path) => is_done(rt, &path, deed),
+        Err(_) => false,
     }
 }
 
 /// Whether what has this name is a folder, and whether it is a link.
 fn kind_of(rt: &HostRuntime, dir: &PathBuf, name: &str) -> io::Result<(bool, bool)> {
-    let metadata = fs::symlink_metadata(rt, &path_of(rt, dir, name, "")?)?;
+    let metadata = fs::symlink_metadata(rt, &path_of(rt, dir, name)?)?;
     Ok((metadata.is_dir(), metadata.is_symlink()))
 }
 
@@ -98,10 +104,10 @@ fn acts(rt: &HostRuntime, dir: &PathBuf, act: &Act<'_>) -> bool {
         Act::IsLink(name) => has_kind(rt, dir, name, (false, true)),
         Act::OtherRefuses(name) => comes_to_other(rt, dir, name, None),
         Act::OtherStores(name, bytes) => comes_to_other(rt, dir, name, Some(bytes)),
-        Act::Writes(name, text) => do_at(rt, dir, name, Deed::Write(text)).is_ok(),
-        Act::Removes(name) => do_at(rt, dir, name, Deed::Remove).is_ok(),
-        Act::Replaces(name, other) => replace(rt, dir, name, other).is_ok(),
-        Act::MakesFolder(name) => do_at(rt, dir, name, Deed::MakeFolder).is_ok(),
+        Act::Writes(name, text) => is_done_at(rt, dir, name, Deed::Write(text)),
+        Act::Removes(name) => is_done_at(rt, dir, name, Deed::Remove),
+        Act::Replaces(name, other) => replaces(rt, dir, name, other),
+        Act::MakesFolder(name) => is_done_at(rt, dir, name, Deed::MakeFolder),
         Act::RemovesAll => is_removed(rt, dir),
         Act::MakesAll => fs::create_dir(rt, dir).is_ok(),
     }

@@ -35,7 +35,7 @@ fn a_part_that_was_replaced_is_not_stored(rt: HostRuntime) {
 /// A part of an earlier run is removed, once nobody has it.
 static LEFT_EARLIER: [Step; 9] = [
     Step::Acts(&[Act::Writes("a.part", "old")]),
-    Step::RefusesLocked("a"),
+    Step::RefusesLocked("a", "a.part"),
     Step::First(Why::PartIsThere),
     Step::Acts(&[Act::Holds("a.part", b"old")]),
     Step::Stores("a", b"", &[Act::Holds("a.part", b"")]),

@@ -106,11 +106,7 @@ fn a_folder_that_is_missing_is_told(rt: HostRuntime) {
 
 /// Whether these 200,000 bytes are stored in order.
 fn stores_all(rt: &HostRuntime, all: &[u8]) -> bool {
-    let steps = [
-        Step::StoresInThree(all),
-        Step::Acts(&[Act::Holds("a", all)]),
-    ];
-    goes(rt, "large", Leftover::Refused, &steps)
+    goes(rt, "large", Leftover::Refused, &[Step::StoresInThree(all)])
 }
 
 /// More bytes than wait at a time are there at the end, in order.

@@ -29,16 +29,26 @@ fn wire<'r>(rt: &'r HostRuntime) -> Result<(TcpStream, SocketWire<&'r HostRuntim
     Ok((near, SocketWire::new(rt, far, Role::Sender)))
 }
 
-/// Whether a read of a line, which waits so many milliseconds, gets this.
-fn gets<W: Wire>(wire: &mut W, millis: u64, buf: &mut [u8], want: Got) -> bool {
+/// Whether a read of a line, which waits so many milliseconds, comes to this.
+pub(super) fn reads<W: Wire>(
+    wire: &mut W,
+    millis: u64,
+    buf: &mut [u8],
+    want: Result<Got, PortFault>,
+) -> bool {
     if buf.is_empty() {
         return false;
     }
-    wire.read(millis, buf) == Ok(want)
+    wire.read(millis, buf) == want
+}
+
+/// Whether it gets this.
+fn gets<W: Wire>(wire: &mut W, millis: u64, buf: &mut [u8], want: Got) -> bool {
+    reads(wire, millis, buf, Ok(want))
 }
 
 /// Whether a line takes these bytes.
-fn takes<W: Wire>(wire: &mut W, bytes: &[u8]) -> bool {
+pub(super) fn takes<W: Wire>(wire: &mut W, bytes: &[u8]) -> bool {
     wire.write(bytes).is_ok()
 }
 
@@ -95,11 +105,16 @@ fn a_line_reads_what_is_there(rt: HostRuntime) -> Result<(), Fail> {
     Ok(())
 }
 
+/// The moment that the clock of a line tells.
+fn moment<W: Wire>(wire: &mut W) -> u64 {
+    wire.moment()
+}
+
 /// Whether the clock of a line goes on with the host's.
 fn goes_on<W: Wire>(rt: &HostRuntime, wire: &mut W) -> bool {
-    let before = wire.moment();
+    let before = moment(wire);
     thread::sleep(rt, Duration::from_millis(50));
-    let after = wire.moment();
+    let after = moment(wire);
     after >= before.saturating_add(50) && after < before.saturating_add(60_000)
 }
 

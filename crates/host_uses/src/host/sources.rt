@@ -3,6 +3,7 @@
 
 use super::folders::{counted, folder, is_removed};
 use std::fs::{File, OpenFile};
+use std::io::ErrorKind;
 use std::os::unix::fs::FileExt;
 use std::path::PathBuf;
 use std::{fs, io};
@@ -42,7 +43,10 @@ struct Place {
 
 /// The file at this path gets so many bytes, counted on from 0.
 fn count_into(rt: &HostRuntime, path: &PathBuf, count: u32) -> io::Result<()> {
-    fs::write(rt, path, counted(rt.alloc(), count)?.as_slice())
+    match counted(rt.alloc(), count) {
+        Ok(bytes) => fs::write(rt, path, bytes.as_slice()),
+        Err(_) => Err(io::Error::from(ErrorKind::OutOfMemory)),
+    }
 }
 
 /// A new folder of this name, and a file in it with as many bytes, counted on from 0.
@@ -237,27 +241,35 @@ static GOES_ON: [Ask; 2] = [
     Ask::Fills(50, 50, Want::Fault),
 ];
 
-/// Whether a source goes on with its file where a later one fails.
-fn keeps_file(rt: &HostRuntime, place: &Place) -> io::Result<bool> {
-    let mut source = opened(rt, place.path.as_str())?;
-    let mut late = opened(rt, place.path.as_str())?;
-    Ok(
-        all_come_out(rt, place, &mut source, &OPENS)
-            && all_come_out(rt, place, &mut late, &REPLACED)
-            && all_come_out(rt, place, &mut source, &GOES_ON),
-    )
+/// Whether a source goes on with its file where a late one fails.
+fn goes_on<S: Source>(rt: &HostRuntime, place: &Place, source: &mut S, late: &mut S) -> bool {
+    all_come_out(rt, place, source, &OPENS)
+        && all_come_out(rt, place, late, &REPLACED)
+        && all_come_out(rt, place, source, &GOES_ON)
+}
+
+/// The same, of two new sources of the file.
+fn keeps_file(rt: &HostRuntime, place: &Place) -> bool {
+    let path = place.path.as_str();
+    match (opened(rt, path), opened(rt, path)) {
+        (Ok(mut source), Ok(mut late)) => goes_on(rt, place, &mut source, &mut late),
+        _ => false,
+    }
 }
 
 #[test]
 fn a_source_is_the_file_that_it_was_made_of(rt: HostRuntime) -> io::Result<()> {
     let place = new_place(&rt, "other", 100)?;
-    assert!(rt; keeps_file(&rt, &place)? && is_removed(&rt, &place.dir));
+    assert!(rt; keeps_file(&rt, &place) && is_removed(&rt, &place.dir));
     Ok(())
 }
 
 /// Whether no source is made of what stands at this path.
 fn is_refused(rt: &HostRuntime, path: &str) -> bool {
-    opened(rt, path).is_err()
+    match opened(rt, path) {
+        Ok(_source) => false,
+        Err(_) => true,
+    }
 }
 
 /// Whether no source is made of this folder, of what is missing in it, of a device, or of no path.

@@ -2,12 +2,12 @@
 //! in between. A test is a table of steps: what they do is proved once, in the loop over them, and
 //! so a long table costs a proof little.
 
-ghost use Rattle.std.specs.Prelude.{◌≡◌, None, IfOk, OnOk, length};
+ghost use Rattle.std.specs.Prelude.{◌≡◌, true, None, IfOk, OnOk, length};
 ghost use Rattle.ym_file.specs.Kept.{IsCoveredFile, IsNew, room};
 ghost use Rattle.ym_folder.specs.DirSink.{kept_of};
 
 use super::acts::{Act, all_hold, path_of};
-use super::folders::{folder, is_removed};
+use super::folders::{folder, is_removed, same};
 use std::alloc::{AllocError, Global};
 use std::fs::File;
 use std::io;
@@ -39,7 +39,7 @@ pub(super) enum Step<'a> {
     LetsGo(&'a str, &'a [Act<'a>]),
     /// The same, but its part cannot be removed.
     Leaves(&'a str, &'a [Act<'a>]),
-    /// The file `a` takes these 200,000 bytes in three pieces, and then it is stored.
+    /// The file `a` takes these 200,000 bytes in three pieces, is stored, and holds them.
     StoresInThree(&'a [u8]),
     /// A file of this name is begun, and for it this part was removed, or none.
     Replaces(&'a str, Option<&'a str>),
@@ -47,8 +47,8 @@ pub(super) enum Step<'a> {
     Closes(bool),
     /// No file of this name is begun.
     Refuses(&'a str),
-    /// The same, while somebody has its part locked.
-    RefusesLocked(&'a str),
+    /// The same, while somebody has its part of the second name locked.
+    RefusesLocked(&'a str, &'a str),
     /// This is done in the folder.
     Acts(&'a [Act<'a>]),
     /// The files of these names are told as stored.
@@ -153,23 +153,35 @@ fn commits<D: Folder + Drop>(sink: &mut DirSink<D>) -> bool
     sink.commit().is_ok()
 }
 
-/// What is done in a folder while a file is open.
-#[derive(Clone, Copy)]
-struct Meanwhile<'a> {
-    dir: &'a PathBuf,
-    acts: &'a [Act<'a>],
-}
-
-/// Whether this could be done while a file was open, and whether the file was stored then.
-fn stores<D: Folder + Drop>(
+/// Whether a file is taken, and what was open before let go.
+fn takes<D: Folder + Drop>(
     rt: &HostRuntime,
     sink: &mut DirSink<D>,
     name: &str,
     bytes: &[u8],
-    meanwhile: Meanwhile<'_>,
-) -> Result<(bool, bool), SinkFault> {
-    take_file(rt, sink, name, bytes)?;
-    Ok((all_hold(rt, meanwhile.dir, meanwhile.acts), commits(sink)))
+) -> bool
+    ensures { result ≡ true → IsCoveredFile (kept_of sink.new) }
+{
+    match take_file(rt, sink, name, bytes) {
+        Ok(()) => true,
+        Err(_) => false,
+    }
+}
+
+/// Whether the file that was taken is stored once this is done; nothing where it cannot be done.
+fn stores<D: Folder + Drop>(
+    rt: &HostRuntime,
+    dir: &PathBuf,
+    sink: &mut DirSink<D>,
+    acts: &[Act<'_>],
+) -> Option<bool>
+    requires { IsCoveredFile (kept_of sink.old) }
+{
+    if all_hold(rt, dir, acts) {
+        Some(commits(sink))
+    } else {
+        None
+    }
 }
 
 /// Whether a file that lacks a byte is let go of without a fault, or with one, after this was done.
@@ -190,7 +202,7 @@ fn lets_go<D: Folder + Drop>(
 
 /// Whether a sink removed this part, or none.
 fn has_replaced<D: Folder + Drop>(sink: &DirSink<D>, part: Option<&str>) -> bool {
-    sink.replaced() == part
+    same(&sink.replaced(), &part)
 }
 
 /// Whether this part was removed, or none, for a file of this name that is begun.
@@ -215,30 +227,32 @@ fn refuses<D: Folder + Drop>(
     Ok(sink.begin(header(rt, name, 3)?) == Err(SinkFault::Failed))
 }
 
-/// The part of the file of this name, locked.
-fn locked(rt: &HostRuntime, dir: &PathBuf, name: &str) -> io::Result<File> {
-    let held = File::open(rt, &path_of(rt, dir, name, ".part")?)?;
+/// The part of this name, locked.
+fn locked(rt: &HostRuntime, dir: &PathBuf, part: &str) -> io::Result<File> {
+    let held = File::open(rt, &path_of(rt, dir, part)?)?;
     held.lock()?;
     Ok(held)
 }
 
-/// Whether no file of this name is begun while its part is locked.
+/// Whether no file of this name is begun while the part of this name is locked.
 fn refuses_locked<D: Folder + Drop>(
     rt: &HostRuntime,
     dir: &PathBuf,
     sink: &mut DirSink<D>,
     name: &str,
+    part: &str,
 ) -> bool {
-    match locked(rt, dir, name) {
+    match locked(rt, dir, part) {
         Ok(_held) => refuses(rt, sink, name) == Ok(true),
         Err(_) => false,
     }
 }
 
 /// Stores the 200,000 bytes of the file `a`. The first bytes wait, the second have no room beside
-/// them, and the third are more than ever wait.
+/// them, and the third are more than ever wait. The file holds all of them.
 fn stores_in_three<D: Folder + Drop>(
     rt: &HostRuntime,
+    dir: &PathBuf,
     sink: &mut DirSink<D>,
     all: &[u8],
 ) -> Result<bool, SinkFault> {
@@ -247,7 +261,7 @@ fn stores_in_three<D: Folder + Drop>(
     }
     clear(sink)?;
     take_in_three(sink, header(rt, "a", 200_000)?, all)?;
-    Ok(sink.commit().is_ok())
+    Ok(commits(sink) && super::folders::holds(rt, dir, "a", Some(all)))
 }
 
 /// Whether a file of this name and these bytes is stored, with nothing done meanwhile, or none of
@@ -291,14 +305,19 @@ pub(super) fn comes_to_other(
     comes_over(SystemFolder::new(rt), rt, dir, name, bytes)
 }
 
+/// Whether these are the headers of files of these names, in this order.
+fn are_named(headers: &[Header], names: &[&str]) -> bool {
+    for (header, name) in headers.iter().zip(names) {
+        if header.name() != *name {
+            return false;
+        }
+    }
+    headers.len() == names.len()
+}
+
 /// Whether the files of these names are told as stored, in this order.
 fn tells<D: Folder + Drop>(sink: &DirSink<D>, names: &[&str]) -> bool {
-    let headers = sink.headers();
-    headers.len() == names.len()
-        && headers
-            .iter()
-            .zip(names)
-            .all(|(it, name)| it.name() == *name)
+    are_named(sink.headers(), names)
 }
 
 /// Whether this is why a sink failed first.
@@ -320,17 +339,19 @@ fn holds<D: Folder + Drop>(
     step: &Step<'_>,
 ) -> bool {
     match *step {
-        Step::Stores(name, bytes, acts) => stores(rt, sink, name, bytes, Meanwhile { dir, acts })
-            == Ok((true, true)),
-        Step::Fails(name, bytes, acts) => stores(rt, sink, name, bytes, Meanwhile { dir, acts })
-            == Ok((true, false)),
+        Step::Stores(name, bytes, acts) => {
+            takes(rt, sink, name, bytes) && stores(rt, dir, sink, acts) == Some(true)
+        }
+        Step::Fails(name, bytes, acts) => {
+            takes(rt, sink, name, bytes) && stores(rt, dir, sink, acts) == Some(false)
+        }
         Step::LetsGo(name, acts) => lets_go(rt, dir, sink, name, acts) == Ok(true),
         Step::Leaves(name, acts) => lets_go(rt, dir, sink, name, acts) == Ok(false),
         Step::Replaces(name, part) => replaces(rt, sink, name, part) == Ok(true),
-        Step::StoresInThree(all) => stores_in_three(rt, sink, all) == Ok(true),
+        Step::StoresInThree(all) => stores_in_three(rt, dir, sink, all) == Ok(true),
         Step::Closes(is_well) => sink.close().is_ok() == is_well,
         Step::Refuses(name) => refuses(rt, sink, name) == Ok(true),
-        Step::RefusesLocked(name) => refuses_locked(rt, dir, sink, name),
+        Step::RefusesLocked(name, part) => refuses_locked(rt, dir, sink, name, part),
         Step::Acts(acts) => all_hold(rt, dir, acts),
         Step::Told(names) => tells(sink, names),
         Step::First(why) => failed_by(sink, why),

@@ -1,5 +1,6 @@
 //! Terminals whose reads end by themselves, as a reader and a clock that follow a list.
 
+use super::sockets::{reads, takes};
 use std::cell::Cell;
 use std::io;
 use std::io::{Cursor, ErrorKind, Read};
@@ -101,92 +102,129 @@ fn word(fault: Option<TtyFault>) -> &'static str {
     }
 }
 
-/// Whether a wait of a second comes to this, at this moment, for this reason.
-fn comes_to(reads: &[Comes], got: Result<Got, PortFault>, at: u64, why: &str) -> bool {
+/// The reads of a list, what a wait of a second comes to with them, at which moment, and for what
+/// reason.
+type Waited = (&'static [Comes], Result<Got, PortFault>, u64, &'static str);
+
+/// Whether a wait comes to what it should.
+fn comes_to((list, got, at, why): &Waited) -> bool {
     let moment = Cell::new(0);
-    let mut wire = wire(reads, &moment);
-    let mut buf = [0; 8];
-    let is_got = wire.read(1000, &mut buf) == got;
-    let is_told = word(wire.fault()) == why && wire.has_failed() == got.is_err();
-    is_got && is_told && moment.get() == at
+    let mut wire = wire(*list, &moment);
+    let is_got = reads(&mut wire, 1000, &mut [0; 8], *got);
+    let is_told = word(wire.fault()) == *why && wire.has_failed() == got.is_err();
+    is_got && is_told && moment.get() == *at
 }
 
-/// Whether a line that hung up is told from one that only looks so.
-fn tell_hung_up() -> bool {
-    let early = Comes::Nothing(0);
-    let quiet = Comes::Nothing(100);
-    comes_to(&[early], Ok(Got::Closed), 0, "hung up")
-        && comes_to(
-            &[early, early, early, early, quiet],
-            Ok(Got::Quiet),
-            1000,
-            "none",
-        )
-        && comes_to(&[Comes::Error(0, 5)], Ok(Got::Closed), 0, "hung up")
+/// Whether these waits come to what they should.
+fn all_come_to(all: &[Waited]) -> bool {
+    for it in all {
+        if !comes_to(it) {
+            return false;
+        }
+    }
+    true
 }
 
-/// Whether a line whose reads wait for ever is told from one whose reads are known to end.
-fn tell_endless() -> bool {
-    let reads = [Comes::Nothing(100), Comes::Byte(3000)];
-    comes_to(&[Comes::Byte(3000)], Err(PortFault), 3000, "endless")
-        && comes_to(&reads, Ok(Got::Bytes(1)), 3100, "none")
-}
+/// A read that ends early with nothing.
+const EARLY: Comes = Comes::Nothing(0);
 
-/// Whether one late byte behind those in time is heard, and two in a row tell that reads wait for
-/// ever.
+/// A read that waits, and gets nothing.
+const QUIET: Comes = Comes::Nothing(100);
+
+/// A byte that comes soon, and one that comes late.
+const SOON: Comes = Comes::Byte(20);
+
+const LATE: Comes = Comes::Byte(3000);
+
+/// A line that hung up is told from one that only looks so.
+static HUNG_UP: [Waited; 3] = [
+    (&[EARLY], Ok(Got::Closed), 0, "hung up"),
+    (
+        &[EARLY, EARLY, EARLY, EARLY, QUIET],
+        Ok(Got::Quiet),
+        1000,
+        "none",
+    ),
+    (&[Comes::Error(0, 5)], Ok(Got::Closed), 0, "hung up"),
+];
+
+/// A line whose reads wait for ever is told from one whose reads are known to end.
+static ENDLESS: [Waited; 2] = [
+    (&[LATE], Err(PortFault), 3000, "endless"),
+    (&[QUIET, LATE], Ok(Got::Bytes(1)), 3100, "none"),
+];
+
+/// Reads that get nothing, a byte, or an error.
+static OTHERS: [Waited; 4] = [
+    (&[QUIET], Ok(Got::Quiet), 1000, "none"),
+    (&[QUIET, SOON], Ok(Got::Bytes(1)), 120, "none"),
+    // an interrupted read, one that did not wait, and a byte
+    (
+        &[Comes::Error(7, 4), Comes::Error(7, 11), Comes::Byte(7)],
+        Ok(Got::Bytes(1)),
+        21,
+        "none",
+    ),
+    // one that failed
+    (&[Comes::Error(7, 9)], Err(PortFault), 7, "system"),
+];
+
+/// One late byte behind those in time is heard, and two in a row tell that reads wait for ever.
+static STALLS: [Comes; 5] = [SOON, LATE, SOON, LATE, LATE];
+
+/// Whether they are told so.
 fn tell_stalls() -> bool {
-    let (soon, late) = (Comes::Byte(20), Comes::Byte(3000));
-    let reads = [soon, late, soon, late, late];
     let moment = Cell::new(0);
-    let mut wire = wire(&reads, &moment);
+    let mut wire = wire(&STALLS, &moment);
     dripped(&mut wire, &mut [0; 8]) == 4 && word(wire.fault()) == "endless"
-}
-
-/// Whether reads that get nothing, a byte, or an error come to what they should.
-fn tell_others() -> bool {
-    let quiet = Comes::Nothing(100);
-    // an interrupted read, one that did not wait, and one that failed
-    let interrupted = [Comes::Error(7, 4), Comes::Error(7, 11), Comes::Byte(7)];
-    comes_to(&[quiet], Ok(Got::Quiet), 1000, "none")
-        && comes_to(&[quiet, Comes::Byte(20)], Ok(Got::Bytes(1)), 120, "none")
-        && comes_to(&interrupted, Ok(Got::Bytes(1)), 21, "none")
-        && comes_to(&[Comes::Error(7, 9)], Err(PortFault), 7, "system")
 }
 
 #[test]
 fn what_a_wait_comes_to(rt: HostRuntime) {
-    assert!(rt; tell_hung_up());
-    assert!(rt; tell_endless());
+    assert!(rt; all_come_to(&HUNG_UP));
+    assert!(rt; all_come_to(&ENDLESS));
     assert!(rt; tell_stalls());
-    assert!(rt; tell_others());
+    assert!(rt; all_come_to(&OTHERS));
 }
 
 /// A clock that stands still ends no wait, and the count of reads does.
+static STANDS_STILL: [Waited; 1] = [(&[Comes::Error(0, 4)], Ok(Got::Quiet), 0, "none")];
+
 #[test]
 fn a_clock_that_stands_still(rt: HostRuntime) {
-    assert!(rt; comes_to(&[Comes::Error(0, 4)], Ok(Got::Quiet), 0, "none"));
+    assert!(rt; all_come_to(&STANDS_STILL));
+}
+
+/// Whether a wait of a second gets a byte.
+fn gets_byte<W: Wire>(wire: &mut W, buf: &mut [u8; 8]) -> bool {
+    reads(wire, 1000, buf, Ok(Got::Bytes(1)))
 }
 
 /// How many reads get a byte before one finds the line quiet.
-fn dripped(wire: &mut TtyWire<Hand<'_>, Listed<'_>, Cursor<[u8; 64]>>, buf: &mut [u8; 8]) -> u32 {
+fn dripped<W: Wire>(wire: &mut W, buf: &mut [u8; 8]) -> u32 {
     for count in 0..1000 {
-        if wire.read(1000, buf) != Ok(Got::Bytes(1)) {
+        if !gets_byte(wire, buf) {
             return count;
         }
     }
     1000
 }
 
-/// Whether bytes that drip are heard for so long, from the first on and from a write on.
+/// Whether bytes that drip on a line are heard for so long, from the first on and from a write on.
+fn drips_on<W: Wire>(wire: &mut W, buf: &mut [u8; 8]) -> bool {
+    dripped(wire, buf) == 35
+        && gets_byte(wire, buf)
+        && takes(wire, b"bytes")
+        && dripped(wire, buf) == 35
+}
+
+/// Reads of which each second one gets a byte.
+static DRIPS: [Comes; 2] = [Comes::Nothing(100), Comes::Byte(900)];
+
+/// The same, of a terminal that does not fail.
 fn drips(moment: &Cell<u64>) -> bool {
-    let reads = [Comes::Nothing(100), Comes::Byte(900)];
-    let mut wire = wire(&reads, moment);
-    let mut buf = [0; 8];
-    dripped(&mut wire, &mut buf) == 35
-        && wire.read(1000, &mut buf) == Ok(Got::Bytes(1))
-        && wire.write(b"bytes").is_ok()
-        && dripped(&mut wire, &mut buf) == 35
-        && word(wire.fault()) == "none"
+    let mut wire = wire(&DRIPS, moment);
+    drips_on(&mut wire, &mut [0; 8]) && word(wire.fault()) == "none"
 }
 
 /// Bytes that come one after another, with no pause as long as a wait, are heard for 30 seconds at

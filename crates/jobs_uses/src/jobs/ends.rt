@@ -13,14 +13,15 @@ use std::path::PathBuf;
 use std::test::Fail;
 use std::{env, fs, io, process};
 use ym_answer::CommandFault;
-use ym_file::{MemSource, Shape};
-use ym_folder::{DirSink, Durability, Leftover};
+use ym_file::{MemSource, Shape, Source};
+use ym_folder::{DirSink, Durability, Folder, Leftover};
 use ym_frame::Bytes;
 use ym_header::Stamp;
 use ym_host::SystemFolder;
-use ym_link::{Confirm, Event, ReceiverInto, ScriptPort, SendFile, SenderFrom};
-use ym_receiving::receive_batch;
+use ym_link::{Confirm, Event, Port, ReceiverInto, ScriptPort, SendFile, SenderFrom};
+use ym_receiving::{Store, receive_batch};
 use ym_sending::send_batch;
+use ym_streams::Output;
 
 /// An output that keeps what is written, or fails at each write.
 #[derive(Drop)]
@@ -101,6 +102,16 @@ fn sender_of(alloc: Global) -> Option<SenderFrom<MemSource>> {
     }
 }
 
+/// What a sender of any files answers over any port. What is tested is called in generic functions
+/// such as this one, which tell a proof nothing.
+fn sent<P: Port, S: Source, O: Output>(
+    port: &mut P,
+    sender: &mut SenderFrom<S>,
+    out: &mut O,
+) -> Result<u8, CommandFault> {
+    send_batch(port, sender, out)
+}
+
 /// Whether a sender answers and prints this over a port.
 fn answers(
     mut port: ScriptPort,
@@ -109,7 +120,8 @@ fn answers(
     want: Result<u8, CommandFault>,
     text: &str,
 ) -> bool {
-    send_batch(&mut port, &mut sender, &mut out) == want && out.text.as_slice() == text.as_bytes()
+    let answer = sent(&mut port, &mut sender, &mut out);
+    answer == want && out.text.as_slice() == text.as_bytes()
 }
 
 /// Whether a sender of the file `a` answers and prints this.
@@ -198,37 +210,16 @@ fn folder(rt: &HostRuntime, name: &str) -> io::Result<PathBuf> {
     Ok(path)
 }
 
-/// A sink that stores files in this folder.
-fn sink_in<'r>(
-    rt: &'r HostRuntime,
+/// A sink that stores files in the folder at this path.
+fn sink_in<D: Folder + Drop>(
+    folder: D,
+    alloc: Global,
     dir: &PathBuf,
-) -> Result<DirSink<SystemFolder<&'r HostRuntime>>, AllocError>
+) -> Result<DirSink<D>, AllocError>
     ensures { IfOk result (λ sink. IsNew (kept_of sink)) }
 {
-    DirSink::new(
-        SystemFolder::new(rt),
-        rt.alloc(),
-        dir.as_str(),
-        Durability::System,
-        Leftover::Refused,
-    )
-}
-
-/// Whether a receiver into this sink answers so, stores so many files, and prints this text.
-fn ends_so(
-    alloc: Global,
-    mut port: ScriptPort,
-    sink: DirSink<SystemFolder<&HostRuntime>>,
-    mut out: Page,
-    want: End<'_>,
-) -> bool
-    requires { IsNew (kept_of sink) }
-{
-    let receiver = ReceiverInto::with_sink(alloc, sink, Confirm::Twice);
-    let (sink, _state, answer) = receive_batch(&mut port, receiver, &mut out);
-    answer == want.answer
-        && sink.headers().len() == want.files
-        && out.text.as_slice() == want.text.as_bytes()
+    let path = dir.as_str();
+    DirSink::new(folder, alloc, path, Durability::System, Leftover::Refused)
 }
 
 /// How a receiver ends: what it answers and prints, and how many files it has stored.
@@ -239,19 +230,55 @@ struct End<'a> {
     files: usize,
 }
 
-/// Whether a receiver into this folder ends so.
-fn is_received(rt: &HostRuntime, dir: &PathBuf, scene: Scene<'_>, want: End<'_>) -> bool {
-    let alloc = rt.alloc();
-    match (scene.port(alloc), sink_in(rt, dir)) {
+/// Whether a receiver over any port answers so, and has stored so many files.
+fn has_received<P: Port, K: Store + Drop, O: Output>(
+    port: &mut P,
+    receiver: ReceiverInto<K>,
+    out: &mut O,
+    want: End<'_>,
+) -> bool {
+    let (sink, _state, answer) = receive_batch(port, receiver, out);
+    answer == want.answer && sink.headers().len() == want.files
+}
+
+/// Whether a receiver into this new sink ends so.
+fn ends_so<K: Store + Drop>(
+    alloc: Global,
+    mut port: ScriptPort,
+    sink: K,
+    mut out: Page,
+    want: End<'_>,
+) -> bool
+    requires { IsNew (K.kept sink) }
+{
+    let receiver = ReceiverInto::with_sink(alloc, sink, Confirm::Twice);
+    let has_received = has_received(&mut port, receiver, &mut out, want);
+    has_received && out.text.as_slice() == want.text.as_bytes()
+}
+
+/// Whether a receiver into the folder at this path ends so.
+fn is_received_in<D: Folder + Drop>(
+    folder: D,
+    alloc: Global,
+    dir: &PathBuf,
+    scene: Scene<'_>,
+    want: End<'_>,
+) -> bool {
+    match (scene.port(alloc), sink_in(folder, alloc, dir)) {
         (Ok(port), Ok(sink)) => ends_so(alloc, port, sink, scene.page(alloc), want),
         _ => false,
     }
 }
 
+/// The same, into a folder of the system.
+fn is_received(rt: &HostRuntime, dir: &PathBuf, scene: Scene<'_>, want: End<'_>) -> bool {
+    is_received_in(SystemFolder::new(rt), rt.alloc(), dir, scene, want)
+}
+
 /// Whether this folder has no part of the file `a`.
 fn has_no_part(rt: &HostRuntime, dir: &PathBuf) -> bool {
     match dir.join(rt.alloc(), "a.part") {
-        Ok(part) => fs::exists(rt, &part).is_ok_and(|is_there| !is_there),
+        Ok(part) => matches!(fs::exists(rt, &part), Ok(false)),
         Err(_) => false,
     }
 }
@@ -295,51 +322,38 @@ fn cancelled() -> End<'static> {
     }
 }
 
-/// Whether it is told of a whole file.
-fn is_whole_told(rt: &HostRuntime, frames: &Frames) -> bool {
-    let want = whole("file a 128 14 644\nreceiver files 1 finished\n");
-    receives(rt, "whole", Scene::whole(&frames.all()), want)
-}
-
-/// Whether it is told of a batch without its end.
-fn is_no_end_told(rt: &HostRuntime, frames: &Frames) -> bool {
-    let text = "file a 128 14 644\nreceiver files 1 running\n";
-    let want = faulty(CommandFault::Closed, text, 1);
-    receives(rt, "no-end", Scene::whole(&frames.no_last()), want)
-}
-
-/// Whether it is told of a file that is open at the end.
-fn is_open_told(rt: &HostRuntime, frames: &Frames) -> bool {
-    let want = faulty(CommandFault::Closed, "receiver files 0 running\n", 0);
-    receives(rt, "open", Scene::whole(&frames.prefix()), want)
+/// Whether a receiver of all frames, of those without the last, of a file that is open at the end,
+/// and one that is cancelled are told.
+fn are_told(rt: &HostRuntime, frames: &Frames) -> bool {
+    let all = whole("file a 128 14 644\nreceiver files 1 finished\n");
+    let no_last = faulty(
+        CommandFault::Closed,
+        "file a 128 14 644\nreceiver files 1 running\n",
+        1,
+    );
+    let open = faulty(CommandFault::Closed, "receiver files 0 running\n", 0);
+    receives(rt, "whole", Scene::whole(&frames.all()), all)
+        && receives(rt, "no-end", Scene::whole(&frames.no_last()), no_last)
+        && receives(rt, "open", Scene::whole(&frames.prefix()), open)
+        && receives(rt, "cancelled", Scene::whole(CANCELS), cancelled())
 }
 
 #[test]
 fn a_receiver_is_told(rt: HostRuntime) -> Result<(), Fail> {
     let frames = Frames::usual(rt.alloc())?;
-    assert!(rt; is_whole_told(&rt, &frames));
-    assert!(rt; is_no_end_told(&rt, &frames));
-    assert!(rt; is_open_told(&rt, &frames));
-    assert!(rt; receives(&rt, "cancelled", Scene::whole(CANCELS), cancelled()));
+    assert!(rt; are_told(&rt, &frames));
     Ok(())
 }
 
-/// Whether the fault of the engine is told before that of the output.
-fn is_engine_told(rt: &HostRuntime, frames: &Frames) -> bool {
-    let want = faulty(CommandFault::Closed, "", 0);
-    receives(rt, "engine", Scene::broken(&frames.prefix()), want)
-}
-
-/// Whether the fault of the output is told, and what was stored stays.
-fn is_output_told(rt: &HostRuntime, frames: &Frames) -> bool {
-    let want = faulty(CommandFault::Device, "", 1);
-    receives(rt, "output", Scene::broken(&frames.all()), want)
-}
-
-/// Whether the fault of the output is told before what the end says.
-fn is_said_last(rt: &HostRuntime) -> bool {
-    let want = faulty(CommandFault::Device, "", 0);
-    receives(rt, "said", Scene::broken(CANCELS), want)
+/// Whether the fault of the engine is told before that of the output, and that of the output before
+/// what the end says.
+fn is_one_told(rt: &HostRuntime, frames: &Frames) -> bool {
+    let engine = faulty(CommandFault::Closed, "", 0);
+    let stored = faulty(CommandFault::Device, "", 1);
+    let said = faulty(CommandFault::Device, "", 0);
+    receives(rt, "engine", Scene::broken(&frames.prefix()), engine)
+        && receives(rt, "output", Scene::broken(&frames.all()), stored)
+        && receives(rt, "said", Scene::broken(CANCELS), said)
 }
 
 /// The fault of the engine before that of the output, and that of the output before what the end
@@ -347,9 +361,7 @@ fn is_said_last(rt: &HostRuntime) -> bool {
 #[test]
 fn of_the_faults_of_a_receiver_one_is_told(rt: HostRuntime) -> Result<(), Fail> {
     let frames = Frames::usual(rt.alloc())?;
-    assert!(rt; is_engine_told(&rt, &frames));
-    assert!(rt; is_output_told(&rt, &frames));
-    assert!(rt; is_said_last(&rt));
+    assert!(rt; is_one_told(&rt, &frames));
     Ok(())
 }
 
@@ -364,16 +376,31 @@ fn is_printed(rt: &HostRuntime, stamp: Stamp, text: &str) -> Result<bool, Fail> 
     Ok(prints(rt, &frames, text))
 }
 
+/// Stamps, and what is printed of a file that has them.
+static STAMPS: [(Stamp, &str); 4] = [
+    (
+        Stamp::Nothing,
+        "file a b 12 - -\nreceiver files 1 finished\n",
+    ),
+    (
+        Stamp::Time(12),
+        "file a b 12 14 -\nreceiver files 1 finished\n",
+    ),
+    (
+        Stamp::TimeMode(12, 420),
+        "file a b 12 14 644\nreceiver files 1 finished\n",
+    ),
+    (
+        Stamp::TimeMode(0, 0),
+        "file a b 12 0 0\nreceiver files 1 finished\n",
+    ),
+];
+
 /// The line of a file that was stored, with its stamp.
 #[test]
 fn a_file_is_told(rt: HostRuntime) -> Result<(), Fail> {
-    let text = "file a b 12 - -\nreceiver files 1 finished\n";
-    assert!(rt; is_printed(&rt, Stamp::Nothing, text)?);
-    let text = "file a b 12 14 -\nreceiver files 1 finished\n";
-    assert!(rt; is_printed(&rt, Stamp::Time(12), text)?);
-    let text = "file a b 12 14 644\nreceiver files 1 finished\n";
-    assert!(rt; is_printed(&rt, Stamp::TimeMode(12, 420), text)?);
-    let text = "file a b 12 0 0\nreceiver files 1 finished\n";
-    assert!(rt; is_printed(&rt, Stamp::TimeMode(0, 0), text)?);
+    for (stamp, text) in &STAMPS {
+        assert!(rt; is_printed(&rt, *stamp, text)?);
+    }
     Ok(())
 }

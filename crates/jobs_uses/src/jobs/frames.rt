@@ -37,7 +37,7 @@ impl Frames {
         stamp: Stamp,
     ) -> Result<Frames, Fail> {
         let header = Header::new(alloc, name, length, stamp)?;
-        let data = Block::new(1, &[b'x'; 128]).map_err(|_| "no block")?;
+        let data = Block::new(1, &[b'x'; 128]).ok().ok_or("no block")?;
         Ok(Frames::of(alloc, write(&header), data)?)
     }
 

@@ -20,40 +20,105 @@ fn says<D: Display>(rt: &HostRuntime, line: &D, want: &str) -> bool {
     }
 }
 
-static SENDERS: [(SendState, &str); 5] = [
-    (SendState::Running, "sender done 3 running"),
-    (SendState::Finished, "sender done 3 finished"),
-    (SendState::NoReply, "sender done 3 no-reply"),
-    (SendState::Cancelled, "sender done 3 cancelled"),
-    (SendState::SourceFailed, "sender done 3 source-failed"),
+/// Whether each line of a table has the text beside it.
+fn all_say<D: Display>(rt: &HostRuntime, all: &[(D, &str)]) -> bool {
+    for (line, want) in all {
+        if !says(rt, line, want) {
+            return false;
+        }
+    }
+    true
+}
+
+/// The lines of senders that have done three files.
+static SENDERS: [(SenderLine, &str); 5] = [
+    (
+        SenderLine {
+            done: 3,
+            state: SendState::Running,
+        },
+        "sender done 3 running",
+    ),
+    (
+        SenderLine {
+            done: 3,
+            state: SendState::Finished,
+        },
+        "sender done 3 finished",
+    ),
+    (
+        SenderLine {
+            done: 3,
+            state: SendState::NoReply,
+        },
+        "sender done 3 no-reply",
+    ),
+    (
+        SenderLine {
+            done: 3,
+            state: SendState::Cancelled,
+        },
+        "sender done 3 cancelled",
+    ),
+    (
+        SenderLine {
+            done: 3,
+            state: SendState::SourceFailed,
+        },
+        "sender done 3 source-failed",
+    ),
 ];
 
-static RECEIVERS: [(RecvState, &str); 6] = [
-    (RecvState::Running, "receiver files 2 running"),
-    (RecvState::TooManyErrors, "receiver files 2 too-many-errors"),
-    (RecvState::OutOfStep, "receiver files 2 out-of-step"),
+/// The lines of receivers that have stored two files.
+static RECEIVERS: [(ReceiverLine, &str); 6] = [
     (
-        RecvState::BadHeader(HeaderFault::NoLength),
+        ReceiverLine {
+            files: 2,
+            state: RecvState::Running,
+        },
+        "receiver files 2 running",
+    ),
+    (
+        ReceiverLine {
+            files: 2,
+            state: RecvState::TooManyErrors,
+        },
+        "receiver files 2 too-many-errors",
+    ),
+    (
+        ReceiverLine {
+            files: 2,
+            state: RecvState::OutOfStep,
+        },
+        "receiver files 2 out-of-step",
+    ),
+    (
+        ReceiverLine {
+            files: 2,
+            state: RecvState::BadHeader(HeaderFault::NoLength),
+        },
         "receiver files 2 bad-header no-length",
     ),
-    (RecvState::TooManyFiles, "receiver files 2 too-many-files"),
-    (RecvState::SinkFailed, "receiver files 2 sink-failed"),
+    (
+        ReceiverLine {
+            files: 2,
+            state: RecvState::TooManyFiles,
+        },
+        "receiver files 2 too-many-files",
+    ),
+    (
+        ReceiverLine {
+            files: 2,
+            state: RecvState::SinkFailed,
+        },
+        "receiver files 2 sink-failed",
+    ),
 ];
 
 #[test]
 fn lines_in_words(rt: HostRuntime) {
-    for (state, want) in SENDERS {
-        assert!(rt;
-            says(&rt, &SenderLine { done: 3, state }, want),
-            "not: {want}"
-        );
-    }
-    for (state, want) in RECEIVERS {
-        assert!(rt;
-            says(&rt, &ReceiverLine { files: 2, state }, want),
-            "not: {want}"
-        );
-    }
+    assert!(rt; all_say(&rt, &SENDERS));
+    assert!(rt; all_say(&rt, &RECEIVERS));
 }
 
 static FAULTS: [(CommandFault, &str); 7] = [
@@ -68,7 +133,5 @@ static FAULTS: [(CommandFault, &str); 7] = [
 
 #[test]
 fn fault_lines(rt: HostRuntime) {
-    for (fault, want) in &FAULTS {
-        assert!(rt; says(&rt, fault, want), "not: {want}");
-    }
+    assert!(rt; all_say(&rt, &FAULTS));
 }

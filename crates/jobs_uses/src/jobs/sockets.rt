@@ -8,10 +8,10 @@ use std::test::Fail;
 use ym_frame::{Item, encode};
 use ym_header::write_end;
 use ym_host::{SocketCarrier, SocketWire};
-use ym_line::LineFault;
-use ym_link::{Receiver, RecvState, receive_over};
+use ym_line::{Carrier, LineFault};
+use ym_link::{Port, Receiver, RecvState, receive_over};
 use ym_play::{PlayFault, play_script};
-use ym_port::{Role, TimedPort};
+use ym_port::{Role, TimedPort, Wire};
 
 /// Both ends of a new connection.
 fn pair(rt: &HostRuntime) -> io::Result<(TcpStream, TcpStream)> {
@@ -21,11 +21,15 @@ fn pair(rt: &HostRuntime) -> io::Result<(TcpStream, TcpStream)> {
     Ok((near, far))
 }
 
-/// Whether a receiver over this connection, at whose other end the end block was written, finishes.
-fn finishes(rt: &HostRuntime, far: TcpStream) -> bool {
-    let mut port = TimedPort::new(SocketWire::new(rt, far, Role::Receiver), Role::Receiver);
-    let mut receiver = Receiver::new(rt.alloc());
-    receive_over(&mut port, &mut receiver) == Ok(()) && receiver.state() == RecvState::Finished
+/// Whether a receiver over this port, to which the end block comes, finishes.
+fn finishes<P: Port>(port: &mut P, alloc: Global) -> bool {
+    let mut receiver = Receiver::new(alloc);
+    receive_over(port, &mut receiver) == Ok(()) && receiver.state() == RecvState::Finished
+}
+
+/// The same, over the program's port of a line.
+fn finishes_on<W: Wire + Drop>(wire: W, alloc: Global) -> bool {
+    finishes(&mut TimedPort::new(wire, Role::Receiver), alloc)
 }
 
 /// Whether bytes are written to one end of a connection.
@@ -42,7 +46,7 @@ fn is_answered(near: &mut TcpStream) -> bool {
 /// Whether a receiver at one end of a connection takes the end block, and answers.
 fn takes_the_end(rt: &HostRuntime, near: &mut TcpStream, far: TcpStream) -> bool {
     writes(near, encode(&Item::Block(write_end())).as_bytes())
-        && finishes(rt, far)
+        && finishes_on(SocketWire::new(rt, far, Role::Receiver), rt.alloc())
         && is_answered(near)
 }
 
@@ -53,10 +57,9 @@ fn a_receiver_over_a_socket(rt: HostRuntime) -> Result<(), Fail> {
     Ok(())
 }
 
-/// Whether a session over this connection ends in a fault of its carrier.
-fn is_carrier_fault(alloc: Global, near: TcpStream, far: TcpStream) -> bool {
-    let mut carrier = SocketCarrier::new(near, far);
-    match play_script(alloc, b"file a -\nok 3\n", &mut carrier) {
+/// Whether a session ends in a fault of its carrier.
+fn is_carrier_fault<C: Carrier>(alloc: Global, carrier: &mut C) -> bool {
+    match play_script(alloc, b"file a -\nok 3\n", carrier) {
         Ok(_) => false,
         Err(fault) => fault == PlayFault::Line(LineFault::Carrier),
     }
@@ -67,6 +70,6 @@ fn is_carrier_fault(alloc: Global, near: TcpStream, far: TcpStream) -> bool {
 fn a_stray_byte_in_the_way(rt: HostRuntime) -> Result<(), Fail> {
     let (mut near, far) = pair(&rt)?;
     assert!(rt; writes(&mut near, &[0]));
-    assert!(rt; is_carrier_fault(rt.alloc(), near, far));
+    assert!(rt; is_carrier_fault(rt.alloc(), &mut SocketCarrier::new(near, far)));
     Ok(())
 }

@@ -6,12 +6,13 @@ use super::calls::{played, same};
 use super::memory::ONE_FILE;
 use std::alloc::Global;
 use std::test::Fail;
-use ym_file::{Collector, Shape};
+use ym_file::{Collector, Shape, Sink, Source};
 use ym_frame::{Bytes, Item, encode};
 use ym_header::{Header, HeaderFault, Stamp, Zero, read, write, write_end};
-use ym_line::{Delivery, Direct, LineFault, Round, run};
+use ym_line::{Carrier, Delivery, Direct, LineFault, Round, run};
 use ym_link::{
-    EndFault, Event, Receiver, RecvState, ScriptPort, SendFile, SendState, Sender, receive_over,
+    EndFault, Event, Port, Receiver, ReceiverInto, RecvState, ScriptPort, SendFile, SendState,
+    Sender, SenderFrom, receive_over,
 };
 use ym_play::{PlayFault, read_script};
 
@@ -81,15 +82,26 @@ struct Run {
     is_whole: bool,
 }
 
+/// The fault of a run over these rounds, if it had one.
+fn fault_of<S: Source, K: Sink, C: Carrier>(
+    alloc: Global,
+    sender: &mut SenderFrom<S>,
+    receiver: &mut ReceiverInto<K>,
+    rounds: &[Round],
+    line: &mut C,
+) -> Option<LineFault> {
+    run(alloc, sender, receiver, rounds, line).err()
+}
+
 /// Runs a usual sender and a receiver over six whole rounds.
 fn run_six(alloc: Global) -> Result<Run, Fail> {
     let mut sender = usual_sender(alloc)?;
     let rounds = whole_rounds(alloc, 6)?;
     let mut receiver = Receiver::new(alloc);
     let mut line = Direct::new(alloc);
-    let answer = run(alloc, &mut sender, &mut receiver, &rounds, &mut line);
+    let fault = fault_of(alloc, &mut sender, &mut receiver, &rounds, &mut line);
     Ok(Run {
-        fault: answer.err(),
+        fault,
         send: sender.state(),
         recv: receiver.state(),
         files: receiver.files().len(),
@@ -215,6 +227,14 @@ impl Left {
     }
 }
 
+/// What a receiver answers over any port.
+fn answer_of<P: Port, K: Sink>(
+    port: &mut P,
+    receiver: &mut ReceiverInto<K>,
+) -> Result<(), EndFault> {
+    receive_over(port, receiver)
+}
+
 /// What is received of one piece behind a quiet line, or of the piece alone.
 fn received(alloc: Global, begins_quiet: bool, piece: &[u8]) -> Result<Left, Fail> {
     let mut events = Vec::new(alloc);
@@ -224,7 +244,7 @@ fn received(alloc: Global, begins_quiet: bool, piece: &[u8]) -> Result<Left, Fai
     events.push(Event::Piece(Bytes::new(piece.to_vec(alloc)?)))?;
     let mut port = ScriptPort::new(alloc, events, None);
     let mut receiver = Receiver::new(alloc);
-    let answer = receive_over(&mut port, &mut receiver);
+    let answer = answer_of(&mut port, &mut receiver);
     Ok(Left {
         answer,
         state: receiver.state(),
