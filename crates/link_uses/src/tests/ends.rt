@@ -18,6 +18,16 @@ fn header_frame(name: &str, length: u64) -> Result<FrameBuf, HeaderFault> {
     Ok(encode(&Item::Block(Block::new(0, &body[..size]).unwrap())))
 }
 
+/// The frame of a short block whose bytes are all the same.
+fn block_frame(number: u8, byte: u8) -> FrameBuf {
+    encode(&Item::Block(Block::new(number, &[byte; 128]).unwrap()))
+}
+
+/// The frame of the end block.
+fn end_frame() -> FrameBuf {
+    encode(&Item::Block(write_end()))
+}
+
 /// What a test keeps of what a step asks.
 #[derive(Clone, Copy, PartialEq)]
 enum Asked {
@@ -70,9 +80,8 @@ fn receives_one(deliveries: &[(&[u8], Reply, Asked)]) -> bool {
 #[test]
 fn receiver_of_one_file(rt: HostRuntime) -> Result<(), Fail> {
     let header = header_frame("a.txt", 130)?;
-    let first = encode(&Item::Block(Block::new(1, &[0x41; 128]).unwrap()));
-    let second = encode(&Item::Block(Block::new(2, &[0x42; 128]).unwrap()));
-    let end = encode(&Item::Block(write_end()));
+    let (first, second) = (block_frame(1, 0x41), block_frame(2, 0x42));
+    let end = end_frame();
     let deliveries: [(&[u8], Reply, Asked); 8] = [
         (b"", Reply::Start, Asked::Nothing),
         (header.as_bytes(), Reply::AckStart, Asked::Begin(b'a', 130)),
