@@ -70,8 +70,10 @@ def test_paced(room):
         begin(page, write_files(here, [("a.bin", bytes(40000))]), "loady")
         until_share(page, 0.5)
         told = text(page, "#figures")
-        rate = re.search(r"([\d.]+) KiB/s", told)
-        assert rate and 0 < float(rate[1]) * 1024 <= RATE, "the page says " + told
+        # a busy machine may make less than a KiB a second of it
+        rate = re.search(r"([\d.]+) (B|KiB)/s", told)
+        most = RATE / {"B": 1, "KiB": 1024}[rate[2]] if rate else 0
+        assert rate and 0 < float(rate[1]) <= most, "the page says " + told
         assert " left" in told, "the page says " + told
         until_ended(page)
         wants_result(page, "Sent")
