@@ -50,8 +50,9 @@ LOG = os.path.join(ROOT, "out", "build.log")
 # `rt ci` begins first what has most lines behind it, but what it has begun keeps its processor.
 ROW, BEHIND = ("ym_sending", "ym_receiving"), later(5)
 # Two runs prove twice as many crates at once as there are processors, and each goes by all memory
-# that is free. So much of it for each processor holds them.
-HOLDS_TWO = 3_000_000_000
+# that is free. So much of it for each processor holds them. Two processors are busy with one run, and
+# each proof takes less of them where fewer go on.
+HOLDS_TWO, FEW = 3_000_000_000, 2
 
 BEGUN = re.compile(r"rt: chose --jobs \d+ for (\w+)")
 PROVED = re.compile(r"rt: (\w+) (?:proved$|is kept: )")
@@ -193,13 +194,16 @@ def copied(names, to):
 
 
 def holds_two_runs():
-    """Whether the memory that is free holds two runs side by side."""
+    """Whether there are processors for two runs side by side, and memory that is free holds them."""
+    processors = len(os.sched_getaffinity(0))
+    if processors <= FEW:
+        return False
     try:
         with open("/proc/meminfo", encoding="ascii") as it:
             free = int(re.search(r"^MemAvailable: *(\d+) kB", it.read(), re.M)[1]) * 1024
     except (OSError, TypeError):
         return False
-    return free >= HOLDS_TWO * len(os.sched_getaffinity(0))
+    return free >= HOLDS_TWO * processors
 
 
 @contextlib.contextmanager
