@@ -50,8 +50,7 @@ LOG = os.path.join(ROOT, "out", "build.log")
 # `rt ci` begins first what has most lines behind it, but what it has begun keeps its processor.
 ROW, BEHIND = ("ym_sending", "ym_receiving"), later(5)
 # Two runs prove twice as many crates at once as there are processors, and each goes by all memory
-# that is free. So much of it for each processor holds them. Two processors are busy with one run, and
-# each proof takes less of them where fewer go on.
+# that is free. So much of it for each processor holds them. One run keeps two processors busy.
 HOLDS_TWO, FEW = 3_000_000_000, 2
 
 BEGUN = re.compile(r"rt: chose --jobs \d+ for (\w+)")
@@ -408,4 +407,5 @@ def main(words):
         return 130
 
 
-sys.exit(main(sys.argv[1:]))
+if __name__ == "__main__":
+    sys.exit(main(sys.argv[1:]))
