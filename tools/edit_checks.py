@@ -10,6 +10,7 @@ import threading
 import time
 
 from proved import RT
+from rt_once import UNWARNED
 
 STATE = re.compile(r"^fn (\S+): (.*)$", re.M)
 FAULT = re.compile(
@@ -91,9 +92,10 @@ class Checked:
             raise SystemExit
         how = {"stdin": subprocess.DEVNULL, "stdout": subprocess.PIPE, "stderr": subprocess.STDOUT}
         how |= {"text": True, "errors": "replace"}
-        heard = [(time.monotonic(), "")]
+        heard, self.is_of_some = [(time.monotonic(), "")], bool(functions)
         only = [word for name in functions for word in ("--only", name)]
-        child = subprocess.Popen([*RT, "check", "--jobs", "1", *only], cwd=folder, **how)
+        words = [*RT, UNWARNED, "check", "--jobs", "1", *only]
+        child = subprocess.Popen(words, cwd=folder, **how)
         self.running.add(child)
         with child.stdout:
             heard += [(time.monotonic(), line) for line in child.stdout]
@@ -105,6 +107,10 @@ class Checked:
         self.seconds = used.ru_utime + used.ru_stime
         self.took = shared_out(self.seconds, [*heard, (time.monotonic(), "")])
         self.text = "".join(line for _, line in heard)
+
+    def finds_none(self):
+        """Whether the prover found no function of one of the names that it was given."""
+        return self.is_of_some and self.status == 2 and not STATE.search(self.text)
 
     def seconds_of(self, names):
         """The processor seconds of these functions."""

@@ -34,6 +34,7 @@ class Copy:
         self.edit, function = edit, edit.changes.function
         self.name = "%s_copy_%d" % (function.path[-1], number)
         named = function.named - function.start
+        self.stands = function.stands(self.name)
         head = text[: named - len(function.path[-1])]
         # Nobody else needs to see it, where no linker does.
         head = head if "no_mangle" in head else VISIBLE.sub(r"\1", head)
@@ -125,18 +126,15 @@ class Copies:
         all others need."""
         with self.trial.room() as folder:
             groups, placed = self.write(folder), self.write_placed(folder)
-            ran = Checked(folder)
-            seconds = ran.seconds
-            if ran.is_killed and not Checked.is_over:
-                ran = Checked(folder)
-                seconds += ran.seconds
+            copies = [it for group in groups for it in group.copies()]
+            ran, seconds = self.trial.checked(folder, self.trial.fit, copies)
             if Checked.is_over:
                 return []
             self.trial.tell("%s, %s" % (self.what, counted(self.edits + placed)), seconds)
             said = Said(self.trial.name, ran.text)
             if not said.has_verdict:
                 return self.again(unread(groups, folder, ran.text))
-        copied = {it.name for group in groups for it in group.copies()}
+        copied = {it.name for it in copies}
         told = [it for it in said.states if copied.isdisjoint(it.split("::"))]
         names = {it.edit: it.names(said.states) for group in groups for it in group.edited}
         names |= {it: it.all_names(self.trial.name, told) for it in placed}

@@ -33,16 +33,11 @@ class Run:
         with self.trial.room() as folder:
             for path, text in self.texts.items():
                 write(os.path.join(folder, path), text)
-            # What it changes is judged by what is said of these, where it names them.
-            return Checked(folder, self.edits[0].laws if self.edits[0].is_alone else ())
+            return self.trial.checked(folder, self.edits)
 
     def begin(self):
         """Makes the check, and judges the edits. Gives the runs that what is open needs."""
-        ran = self.check()
-        seconds = ran.seconds
-        if ran.is_killed and not Checked.is_over:
-            ran = self.check()
-            seconds += ran.seconds
+        ran, seconds = self.check()
         if Checked.is_over:
             return []
         self.trial.tell("%s, %s" % (self.what, counted(self.edits)), seconds)

@@ -30,6 +30,8 @@ TOKEN = re.compile(
 CLAUSE = re.compile(r"\b(requires|ensures|ghost)\b[^{}]*$")
 REFUSES = re.compile(r"^refuses: (.*)$", re.M)
 LONG = re.compile(r"^takes: long$", re.M)
+# The types that a file declares.
+TYPE = re.compile(r"\b(?:struct|enum|union)\s+(\w+)")
 CYCLE = re.compile(r"#\s*\[\s*cycle\s*\(\s*(\w+)\s*\)")
 
 
@@ -120,6 +122,12 @@ class Edit:
         """The prover's names of the functions that it changes."""
         return {name for it in self.functions for name in it.names(crate, told)}
 
+    def stands(self):
+        """The paths of what the prover has to judge for it. One is empty where that is the crate."""
+        if self.is_alone:
+            return self.laws or [""]
+        return [it.stands() for it in self.functions]
+
     def places(self):
         """The functions that it changes, each with its file."""
         return zip((path for path, _, _ in self.pairs()), self.functions)
@@ -165,6 +173,18 @@ class Function:
         # Functions that call one another have one proof.
         self.cycle = [*modules, "+" + cycle[1]] if cycle else []
         self.is_const = bool(re.search(r"\bconst\b", head[: head.rfind("fn ")]))
+        # The types of its file.
+        self.types = ()
+
+    def stands(self, name=None):
+        """The path by which the prover finds it alone, or the one of this name beside it. Where its
+        text does not tell that, the path of its module, and nothing for the crate's root."""
+        *around, own = self.path
+        of = around[-1] if around else None
+        if self.is_of_trait or isinstance(of, Impl) and of.spelled not in self.types:
+            return "::".join(around[:-1])
+        around = [it.spelled if isinstance(it, Impl) else it for it in around]
+        return "::".join([*around, name or own])
 
     def fit(self, name):
         """How well the prover's name fits: nothing, where it is not the function's. A name of its
@@ -197,7 +217,8 @@ class Impl:
         head = re.sub(r"'\w+", "", re.split(r"\bwhere\b", head)[0]).strip()
         of_all = head[: angle_end(head)] if head.startswith("<") else ""
         whole, _, of = head[len(of_all) :].rpartition(" for ")
-        named, self.is_of_trait = last_word(of), bool(whole)
+        self.spelled = named = last_word(of)
+        self.is_of_trait = bool(whole)
         is_any = named in re.findall(r"[<,]\s*(\w+)", of_all)
         self.name = (("any" if is_any else named) + last_word(whole)).lower()
         self.given = "".join(re.findall(r"\w+", whole.partition("<")[2])).lower()
@@ -291,4 +312,7 @@ def functions_of(path, text):
     parts = path[len("src/") : -len(".rt")].split("/")
     parts = parts[:-1] if parts[-1] in ("lib", "main", "mod") else parts
     text = BLANK.sub(lambda it: re.sub(r"[^\n]", " ", it[0]), text)
-    return list(functions_in(text, 0, len(text), tuple(parts)))
+    found = list(functions_in(text, 0, len(text), tuple(parts)))
+    for it in found:
+        it.types = TYPE.findall(text)
+    return found

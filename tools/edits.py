@@ -6,11 +6,12 @@ crates those are left out that say that they take long.
 The prover tells a verdict of each function, so many edits share one check. Most are tried on copies
 of their functions, all at once (edit_copies.py). The others are made where the functions stand, one
 of each function at a time: those of functions of traits, those of several functions, and what the
-copies leave open. An edit of anything but a function's body is tried alone. Where it names the law
-that has to be refused for it, that one is checked and no other function. A function is refused by
-itself where the prover finds a fault in its own proof, and not only in a function that it calls.
-What a shared check leaves open is tried again, at last alone, so that what is told of an edit is
-about that edit. An edit fails that is
+copies leave open. An edit of anything but a function's body is tried alone. It is a check of the
+functions that the edits change, of those that they call, and of no others. Where an edit that is
+tried alone names the law that has to be refused for it, it is one of that law, and else of the
+whole crate. A function is refused by itself where the prover finds a fault in its own proof, and
+not only in a function that it calls. What a shared check leaves open is tried again, at last alone,
+so that what is told of an edit is about that edit. An edit fails that is
 
   still proved        the crate is proved with it
   not its own         only other functions are refused, and not the one that it changes
@@ -30,7 +31,9 @@ are nobody's interface: a new toolchain may rename them, where it keeps its comm
 
 It begins with what a build or `rt check` kept of the crates, here or in another copy on this
 machine. The libraries that are not there are proved too, and the edits of a crate are tried once
-its own is there. A crate whose library is there needs no other proof.
+its own is there. A crate whose library is there needs no other proof. Over all crates no library is
+made that no edit stands on: there, what the edits change is proved as it stands, with what that
+calls. So this tells that the edits are refused for what they change, and not that all is proved.
 
 usage: edits.py [--anew] [--every] [--jobs N] [CRATE..]
   --anew      tries also what an earlier run settled
@@ -95,6 +98,8 @@ class Trial:
         # crate's own proof takes.
         self.is_proved, self.own = False, 0
         self.edits = [it for it in self.found() if self.is_open(it)]
+        # Those that can be applied.
+        self.fit = []
 
     def found(self):
         for part in self.parts:
@@ -170,30 +175,43 @@ class Trial:
         is_kept = self.make_seed()
         if self.settled.now() != self.settled.sum:
             return self.left_untried("its crate, or one below it, changed meanwhile", self.edits)
-        if not (self.is_proved and is_kept) and not self.is_proved_here(self.edits):
+        self.fit = [it for it in self.edits if self.can_be_applied(it)]
+        if not (self.is_proved and is_kept) and not self.is_proved_here(self.fit):
             return []
-        fit = [it for it in self.edits if self.can_be_applied(it)]
         proofs = proofs_of(self.name, self.folder)
-        copied = [it for it in fit if can_be_copied(it, proofs) and not self.are_proved]
-        placed = [] if self.are_proved else one_of_each([it for it in fit if it not in copied])
-        self.others = [it for it in fit if it not in (*copied, *placed)]
+        copied = [it for it in self.fit if can_be_copied(it, proofs) and not self.are_proved]
+        placed = [] if self.are_proved else one_of_each([it for it in self.fit if it not in copied])
+        self.others = [it for it in self.fit if it not in (*copied, *placed)]
         has_some = copied or placed
         return [Copies(self, copied, placed)] if has_some else self.in_place([], self.told)
 
     def is_proved_here(self, edits):
-        """Proves the crate, and has the prover tell of its functions. Gives whether it is proved;
-        where it is not, these edits are not tried."""
-        ran = Checked(self.folder)
+        """Proves what these edits change as it stands, and has the prover tell of it. Gives whether
+        it is proved; where it is not, these edits are not tried."""
+        ran, seconds = self.checked(self.folder, edits)
         if Checked.is_over:
             return False
-        self.own += ran.seconds
-        self.tell("its own proof", ran.seconds)
+        self.own += seconds
+        self.tell("its own proof", seconds)
         said = Said(self.name, ran.text)
         self.told = list(said.states)
         if ran.status:
-            why = "its crate is not proved without it: %s" % said.first_error()
+            why = "what it changes is not proved without it: %s" % said.first_error()
             self.left_untried(why, edits)
         return not ran.status
+
+    def checked(self, folder, edits, copies=()):
+        """A check of what these edits change, and of these copies, with the processor seconds that
+        it took. It is one of the whole crate where an edit may change more than its function, and
+        where the prover cannot be told which functions these are."""
+        wanted = {it.stands for it in copies} | {it for edit in edits for it in edit.stands()}
+        wanted = () if "" in wanted else sorted(wanted)
+        ran = Checked(folder, wanted)
+        seconds = ran.seconds
+        if not Checked.is_over and (ran.is_killed or ran.finds_none()):
+            ran = Checked(folder, () if ran.finds_none() else wanted)
+            seconds += ran.seconds
+        return ran, seconds
 
     def note(self, edit, seconds):
         with self.lock:
@@ -269,9 +287,9 @@ class Lanes:
     Libraries go ahead, the one first that begins the longest row of crates. The runs of a crate
     begin once its library is there, those of the dearest crate first."""
 
-    def __init__(self, trials, count):
+    def __init__(self, trials, count, with_tops):
         self.count, self.memory = count, free_memory()
-        self.libraries = Libraries(*(it.name for it in trials), with_tops=True)
+        self.libraries = Libraries(*(it.name for it in trials), with_tops=with_tops)
         rows = self.libraries.rows
         self.unproved = sorted(self.libraries.lacking(), key=lambda it: -rows[it])
         self.needs = {it: it.memory() for it in trials}
@@ -332,9 +350,11 @@ class Lanes:
 class Choice:
     """Which edits are tried, and how many checks at a time, by the words of a call."""
 
-    def __init__(self, names, anew=False, is_whole=True, lanes=1):
-        # Whether also what was settled, and also those that take long.
+    def __init__(self, names, anew=False, is_whole=True, lanes=1, is_named=True):
+        # Whether also what was settled, and also those that take long, and whether somebody named
+        # the crates.
         self.names, self.anew, self.is_whole, self.lanes = names, anew, is_whole, lanes
+        self.is_named = is_named
 
     @classmethod
     def of(cls, words, listed):
@@ -348,7 +368,8 @@ class Choice:
         lacking = [it for it in words if it not in listed.lines]
         if lacking:
             sys.exit("%s: crates.txt lists no such crate\n\n%s" % (lacking[0], __doc__))
-        return cls(words or list(listed.lines), anew, every or bool(words), lanes)
+        is_named = bool(words)
+        return cls(words or list(listed.lines), anew, every or is_named, lanes, is_named)
 
 
 def used():
@@ -369,7 +390,7 @@ def tried(listed, choice, kind=Trial):
         try:
             trials = [kind(name, listed, version, choice) for name in choice.names]
             is_open = [it for it in trials if it.edits]
-            made = Lanes(is_open, choice.lanes)
+            made = Lanes(is_open, choice.lanes, with_tops=choice.is_named)
             made.make()
             if made.libraries.minutes:
                 print("the libraries: %.1f processor minutes" % made.libraries.minutes, flush=True)

@@ -6,9 +6,11 @@ It makes that anew for each way that leads from a crate to one below. Of these c
 thousands of ways, and one call of `rt` takes minutes for them. Here a sum is made once for each
 crate and each question, so the answers are the same. An `rt` that is no such script is run as it is.
 
-usage: rt_once.py [--statements] WORD..
+usage: rt_once.py [--statements|--unwarned] WORD..
   --statements   a library that is built holds what other crates can cite, as those of `rt ci` do, and
                  not its checked proofs, and nothing is kept for its next check
+  --unwarned     a check leaves out the warnings of texts that a verdict of `rt` would refuse. They
+                 change no check, and to read all texts for them takes seconds
 """
 
 import importlib
@@ -23,9 +25,9 @@ sys.dont_write_bytecode = True
 
 # What the script has its crates from.
 MODULE = "rtlib"
-STATEMENTS = "--statements"
-# Whether libraries are built so.
-IS_CUT = False
+STATEMENTS, UNWARNED = "--statements", "--unwarned"
+# Which of these words is given, if one is.
+HOW = None
 
 
 def summed_once(stamp):
@@ -78,8 +80,10 @@ class Loader(importlib.machinery.SourceFileLoader):
 
 def change(module):
     module.Crate.stamp = summed_once(module.Crate.stamp)
-    if IS_CUT:
+    if HOW == STATEMENTS:
         cut(module)
+    if HOW == UNWARNED:
+        module.stop_on_text = lambda crate, verb: None
 
 
 def main(words):
@@ -95,5 +99,5 @@ def main(words):
 
 
 if __name__ == "__main__":
-    IS_CUT = sys.argv[1:2] == [STATEMENTS]
-    main(sys.argv[1 + IS_CUT :])
+    HOW = sys.argv[1] if sys.argv[1:2] in ([STATEMENTS], [UNWARNED]) else None
+    main(sys.argv[1 + bool(HOW) :])

@@ -12,7 +12,7 @@ from concurrent.futures import ThreadPoolExecutor
 
 from edit_checks import TAKING, Said, take
 from edit_copies import Group
-from edit_texts import Edit
+from edit_texts import Edit, functions_of
 from support.cases import sentence
 from support.program import ROOT
 from support.skipping import needs
@@ -101,10 +101,33 @@ EDITS = {
 }
 FAIL = ("does_not_compile", "same", "nowhere", "twice")
 
+# A crate of which one function has an edit, and the other one is wrong.
+APART = """//! Sums apart.
+#![tactic(auto)]
+
+ghost use Rattle.std.specs.Prelude.{◌≡◌, ◌+◌, ◌≤◌};
+
+/// One more.
+pub fn after(n: u8) -> u8
+    requires { n ≤ 9 }
+    ensures { result ≡ n + 1 }
+{
+    n + 1
+}
+
+/// One more, as it says.
+pub fn wrong(n: u8) -> u8
+    requires { n ≤ 9 }
+    ensures { result ≡ n + 1 }
+{
+    n
+}
+"""
+
 
 class Tried:
     """A repository with the crate, where `make edits` is called with all edits, then with those
-    that are to be refused, and at last over all crates."""
+    that are to be refused, and at last over all crates, of which one is new."""
 
     made, making = None, threading.Lock()
 
@@ -127,6 +150,10 @@ class Tried:
                 if name.endswith(FAIL):
                     os.remove(os.path.join(self.top, "crates", "sums", name + ".edit"))
             self.refused = self.make("edits", "EVERY=1")
+            self.write("crates.txt", "sums:\napart:\n")
+            self.write("crates/apart/src/lib.rt", APART)
+            edit = "file: src/lib.rt\nold:     n + 1\nnew:     n + 2\n"
+            self.write("crates/apart/edits/after.two_steps.edit", edit)
             self.seen = self.make("edits")
             self.words = self.make("-n", "edits", "ANEW=1", "CRATES=sums")
 
@@ -290,9 +317,38 @@ def test_settled():
 @sentence("over all crates those that take long are left out")
 def test_left_out():
     """They are tried where their crate is named."""
+    status, lines = Tried.once().seen
     left_out = "1 that take long were left out: --every tries them too"
-    told = [NOTHING, left_out, "5 passed, 0 failed"]
-    assert Tried.once().seen == (0, told), "the last run"
+    assert (status, lines[-2:]) == (0, [left_out, "6 passed, 0 failed"]), "the last run"
+
+
+@sentence("what no edit changes is not proved for the edits")
+def test_no_more_is_proved():
+    """A function that is wrong stands beside the one that is edited."""
+    lines = Tried.once().seen[1]
+    told = [it.rpartition(",")[0] for it in lines if it.startswith("apart: ")]
+    assert told == ["apart: its own proof", "apart: copies, 1 edit"], "its checks"
+
+
+PLACES = """pub fn free() {}
+struct Here<T> { it: T }
+impl<T> Here<T> { fn own() {} }
+impl There { fn far() {} }
+impl From<There> for Here<u8> { fn from() {} }
+trait Draw { fn draw() {} }
+mod inner { fn deep() {} }
+"""
+
+
+@sentence("the prover is asked for a function by the path that its text tells")
+def test_paths():
+    """That of a trait's function, or of a type that is declared elsewhere, is its module's."""
+    paths = "low::free low::Here::own low low low low::inner::deep"
+    assert [it.stands() for it in functions_of("src/low.rt", PLACES)] == paths.split(), "in a module"
+    at_root = [it.stands() for it in functions_of("src/lib.rt", PLACES)]
+    assert at_root == ["free", "Here::own", "", "", "", "inner::deep"], "in the crate's root"
+    own = functions_of("src/low.rt", PLACES)[1]
+    assert own.stands("own_copy_1") == "low::Here::own_copy_1", "of a copy"
 
 
 def with_library(top):

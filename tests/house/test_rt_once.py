@@ -1,5 +1,5 @@
-"""The sums of crates' texts, each made once for a question, and libraries that hold their statements
-alone (tools/rt_once.py)."""
+"""The sums of crates' texts, each made once for a question, libraries that hold their statements
+alone, and checks without warnings (tools/rt_once.py)."""
 
 import os
 import subprocess
@@ -130,6 +130,35 @@ def test_statements(known, built):
         assert told == [str(["lib", "keeps", *built]), "['lib', 'keeps']"], "its words"
         told = said([sys.executable, ONCE, "lib"], top)
         assert told == ["['lib', 'keeps', '--incremental']", "['lib', 'keeps']"], "as it is"
+
+
+# A module that warns of texts, as `rt` does ahead of a check.
+WARNS = """
+class Crate:
+    def stamp(self):
+        return ""
+
+
+def stop_on_text(crate, verb):
+    print("warned of", crate, verb)
+"""
+WARNED = """#!/usr/bin/env python3
+import rtlib
+
+rtlib.stop_on_text("low", "check")
+print("checked")
+"""
+
+
+@sentence("a check of an edit leaves out the warnings of texts")
+def test_unwarned():
+    with tempfile.TemporaryDirectory(prefix="ymodem-") as top:
+        write_files(top, [("rtlib.py", WARNS.encode())])
+        write_program(os.path.join(top, "rt"), WARNED)
+        told = said([sys.executable, ONCE, "--unwarned", "check"], top)
+        assert told == ["checked"], "without them"
+        told = said([sys.executable, ONCE, "check"], top)
+        assert told == ["warned of low check", "checked"], "as it is"
 
 
 @sentence("an rt that is no such script is run as it is")
