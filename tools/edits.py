@@ -68,7 +68,7 @@ from proved import made_of
 # One folder for each checkout: rt notes each folder where it proves, and so it notes few.
 ROOM = os.path.join(tempfile.gettempdir(), "edits-%d-%s" % (os.getuid(), sum_of(ROOT)[:12]))
 # Counted up where an edit may be judged otherwise than before: what was kept is tried again then.
-JUDGEMENT = 2
+JUDGEMENT = 3
 TRIED = ("must-fail", "edits")
 # So many of the dearest edits are told.
 DEAREST = 12
@@ -176,7 +176,8 @@ class Trial:
         if self.settled.now() != self.settled.sum:
             return self.left_untried("its crate, or one below it, changed meanwhile", self.edits)
         self.fit = [it for it in self.edits if self.can_be_applied(it)]
-        if not (self.is_proved and is_kept) and not self.is_proved_here(self.fit):
+        needs_proof = self.fit and not (self.is_proved and is_kept)
+        if needs_proof and not self.is_proved_here(self.fit):
             return []
         proofs = proofs_of(self.name, self.folder)
         copied = [it for it in self.fit if can_be_copied(it, proofs) and not self.are_proved]
